@@ -1,0 +1,70 @@
+-- A word and its six fields determine each other; how words compare; the immediate and the index as runs of bits.
+-- Assumes nothing.
+use Prim.Native.Nat.{ℕ, _+_, _*_, _%_, _^_, _<_}
+use mathlib.Core.Path.{_≡_, fun-ext}
+use native.Mathlib.Omega.{arith}
+use Rattle.word.specs.Word.{bits, Field, op, rs, rt, rd, sa, fn, Fields, fieldsOf, Fit, word, words}
+use Rattle.word.specs.Numbers.{imm, index}
+
+pub fields-fit : (w : ℕ) → Fit (fieldsOf w)
+unfolding fieldsOf
+fields-fit w op = omega arith
+fields-fit w rs = omega arith
+fields-fit w rt = omega arith
+fields-fit w rd = omega arith
+fields-fit w sa = omega arith
+fields-fit w fn = omega arith
+
+pub word-small : (f : Fields) → Fit f → word f < words
+unfolding word
+word-small f h = omega (arith, h op, h rs, h rt, h rd, h sa, h fn)
+
+-- the immediate: bits 15..0, from 15..11, 10..6 and 5..0
+pub imm-is : (w : ℕ) → imm (fieldsOf w) ≡ bits 15 0 w
+unfolding imm fieldsOf
+imm-is w = omega arith
+
+-- bits 25..0 are 25..21, 20..16 and the immediate
+index-cut : (w : ℕ) → bits 25 21 w * 2 ^ 21 + bits 20 16 w * 2 ^ 16 + bits 15 0 w ≡ bits 25 0 w
+index-cut w = omega arith
+
+sides : (f : Fields) → index f ≡ f rs * 2 ^ 21 + f rt * 2 ^ 16 + imm f
+unfolding index imm
+sides f = omega arith
+
+pub index-is : (w : ℕ) → index (fieldsOf w) ≡ bits 25 0 w
+unfolding fieldsOf
+index-is w = omega (arith, sides (fieldsOf w), imm-is w, index-cut w)
+
+whole : (f : Fields) → word f ≡ f op * 2 ^ 26 + index f
+unfolding word index
+whole f = omega arith
+
+word-cut : (w : ℕ) → w < words → bits 31 26 w * 2 ^ 26 + bits 25 0 w ≡ w
+word-cut w h = omega arith
+
+pub word-fields : (w : ℕ) → w < words → word (fieldsOf w) ≡ w
+unfolding fieldsOf
+word-fields w h = omega (arith, whole (fieldsOf w), index-is w, word-cut w h)
+
+field-word : (f : Fields) → Fit f → (x : Field) → fieldsOf (word f) x ≡ f x
+unfolding word fieldsOf
+field-word f h op = omega (arith, h op, h rs, h rt, h rd, h sa, h fn)
+field-word f h rs = omega (arith, h op, h rs, h rt, h rd, h sa, h fn)
+field-word f h rt = omega (arith, h op, h rs, h rt, h rd, h sa, h fn)
+field-word f h rd = omega (arith, h op, h rs, h rt, h rd, h sa, h fn)
+field-word f h sa = omega (arith, h op, h rs, h rt, h rd, h sa, h fn)
+field-word f h fn = omega (arith, h op, h rs, h rt, h rd, h sa, h fn)
+
+pub fields-word : (f : Fields) → Fit f → fieldsOf (word f) ≡ f
+fields-word f h = fun-ext (field-word f h)
+
+-- the two runs as the code works them out
+pub imm-low : (w : ℕ) → imm (fieldsOf w) ≡ w % 65536
+imm-low w = omega (arith, imm-is w)
+
+pub index-low : (w : ℕ) → index (fieldsOf w) ≡ w % 67108864
+index-low w = omega (arith, index-is w)
+
+pub imm-small : (w : ℕ) → imm (fieldsOf w) < 65536
+imm-small w = omega (arith, imm-is w)
