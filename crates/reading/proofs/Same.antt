@@ -1,0 +1,161 @@
+-- Equality of readings, part by part: a test's answer as a statement, and values that their parts determine.
+-- Assumes nothing.
+use Prim.Native.Nat.{ℕ, zero, suc}
+use mathlib.Core.Path.{_≡_, refl, sym, _∙_, ap}
+use mathlib.Core.Bool.{Bool, true, false, not, false≢true, Bool·beq}
+use mathlib.Core.List.{List, [], _∷_}
+use mathlib.Core.Logic.{_↔_}
+use lib.ListN.{length, getD}
+use native.Mathlib.Omega.{arith}
+use borrow.Author.Tests.{not-false}
+use Rattle.reading.specs.declared.Op.{Op}
+use Rattle.reading.specs.declared.Op.the-variants.{Reg, FReg, Imm, Mem, Addr, Cop0}
+use Rattle.reading.specs.declared.Flow.{Flow}
+use Rattle.reading.specs.declared.Flow.the-variants as flow
+use Rattle.reading.specs.declared.Effect.{Effect}
+use Rattle.reading.specs.declared.Effect.the-variants as effect
+use Rattle.reading.specs.declared.Target.{Target}
+use Rattle.reading.specs.declared.Target.the-variants as target
+use Rattle.reading.specs.declared.Operand.{Operand}
+use Rattle.reading.specs.declared.Insn.{Insn}
+use Rattle.reading.specs.declared.Parts.{Parts}
+use Rattle.reading.specs.Numbers.{opParts, effectParts, targetParts, flowNumber}
+
+-- ── what a test's answer says ──
+
+-- the test b is true exactly if P holds
+abbrev pub Says : Bool → Type 0 → Type 0
+Says b P = (b ≡ true) ↔ P
+
+pub differs : {P : Type 0} → (P → ⊥) → Says false P
+differs n = (λ e. absurd (false≢true e), λ p. absurd (n p))
+
+pub said-no : {b : Bool} {P : Type 0} → Says b P → not b ≡ true → P → ⊥
+said-no s e p = false≢true (sym (ap not (s .1 p)) ∙ e)
+
+pub said-yes : {b : Bool} {P : Type 0} → Says b P → not b ≡ false → P
+said-yes {b} s e = s .0 (not-false b e)
+
+pub beq-says : (a b : Bool) → Says (Bool·beq a b) (a ≡ b)
+beq-says true true = (λ e. refl, λ e. refl)
+beq-says true false = (λ e. absurd (false≢true e), λ e. absurd (false≢true (sym e)))
+beq-says false true = (λ e. absurd (false≢true e), λ e. absurd (false≢true e))
+beq-says false false = (λ e. refl, λ e. refl)
+
+-- ── the parts determine the value ──
+
+opFrom : Parts → Op
+opFrom p = pick (p .number)
+  where
+    pick : ℕ → Op
+    pick zero = Reg 0
+    pick (suc zero) = Reg (p .first)
+    pick (suc (suc zero)) = FReg (p .first)
+    pick (suc (suc (suc zero))) = Imm (p .value)
+    pick (suc (suc (suc (suc zero)))) = Mem (p .value) (p .first)
+    pick (suc (suc (suc (suc (suc zero))))) = Addr (p .address)
+    pick (suc (suc (suc (suc (suc (suc n)))))) = Cop0 (p .first)
+
+op-back : (o : Op) → opFrom (opParts o) ≡ o
+unfolding opFrom
+op-back (Reg n) = refl
+op-back (FReg n) = refl
+op-back (Imm z) = refl
+op-back (Mem z n) = refl
+op-back (Addr a) = refl
+op-back (Cop0 n) = refl
+
+effectFrom : Parts → Effect
+effectFrom p = pick (p .number)
+  where
+    pick : ℕ → Effect
+    pick zero = effect.None
+    pick (suc zero) = effect.SetAddr (p .first) (p .address)
+    pick (suc (suc zero)) = effect.AddImm (p .first) (p .second) (p .value)
+    pick (suc (suc (suc zero))) = effect.Mem (p .first) (p .second) (p .value) (p .size)
+    pick (suc (suc (suc (suc n)))) = effect.Write (p .first)
+
+effect-back : (e : Effect) → effectFrom (effectParts e) ≡ e
+unfolding effectFrom
+effect-back effect.None = refl
+effect-back (effect.SetAddr t a) = refl
+effect-back (effect.AddImm t s z) = refl
+effect-back (effect.Mem t s z n) = refl
+effect-back (effect.Write t) = refl
+
+targetFrom : Parts → Target
+targetFrom p = pick (p .number)
+  where
+    pick : ℕ → Target
+    pick zero = target.None
+    pick (suc n) = target.At (p .address)
+
+target-back : (t : Target) → targetFrom (targetParts t) ≡ t
+unfolding targetFrom
+target-back target.None = refl
+target-back (target.At a) = refl
+
+flowFrom : ℕ → Flow
+flowFrom zero = flow.None
+flowFrom (suc zero) = flow.Call
+flowFrom (suc (suc zero)) = flow.Jump
+flowFrom (suc (suc (suc zero))) = flow.CondJump
+flowFrom (suc (suc (suc (suc zero)))) = flow.Ret
+flowFrom (suc (suc (suc (suc (suc n))))) = flow.Interrupt
+
+flow-back : (f : Flow) → flowFrom (flowNumber f) ≡ f
+unfolding flowFrom
+flow-back flow.None = refl
+flow-back flow.Call = refl
+flow-back flow.Jump = refl
+flow-back flow.CondJump = refl
+flow-back flow.Ret = refl
+flow-back flow.Interrupt = refl
+
+-- what can be put back is told apart
+one : {A K : Type 0} (k : A → K) (from : K → A) → ((x : A) → from (k x) ≡ x) → (x y : A) → k x ≡ k y → x ≡ y
+one k from back x y e = sym (back x) ∙ (ap from e ∙ back y)
+
+pub op-one : (x y : Op) → opParts x ≡ opParts y → x ≡ y
+op-one = one opParts opFrom op-back
+
+pub effect-one : (x y : Effect) → effectParts x ≡ effectParts y → x ≡ y
+effect-one = one effectParts effectFrom effect-back
+
+pub target-one : (x y : Target) → targetParts x ≡ targetParts y → x ≡ y
+target-one = one targetParts targetFrom target-back
+
+pub flow-one : (x y : Flow) → flowNumber x ≡ flowNumber y → x ≡ y
+flow-one = one flowNumber flowFrom flow-back
+
+-- an answer about the parts is one about the values
+pub by-parts : {A : Type 0} {b : Bool} (x y : A) (k : A → Parts) → ((x y : A) → k x ≡ k y → x ≡ y) → {m n : Parts} → m ≡ k x → n ≡ k y → Says b (m ≡ n) → Says b (x ≡ y)
+by-parts x y k tells p q s = (λ e. tells x y (sym p ∙ (s .0 e ∙ q)), λ e. s .1 (p ∙ (ap k e ∙ sym q)))
+
+-- ── structs are equal if their fields are ──
+
+pub parts-one : (a b : Parts) → a .number ≡ b .number → a .first ≡ b .first → a .second ≡ b .second → a .size ≡ b .size → a .value ≡ b .value → a .address ≡ b .address → a ≡ b
+parts-one a b p q r s t u = λ i. record { number = p i; first = q i; second = r i; size = s i; value = t i; address = u i }
+
+pub operand-one : {b : Bool} (x y : Operand) → Says b (x .op ≡ y .op) → Says b (x ≡ y)
+operand-one x y s = (λ e i. record { op = s .0 e i }, λ e. s .1 (ap (λ (z : Operand). z .op) e))
+
+-- past the end of a list of operands
+abbrev pub none : Operand
+none = record { op = Reg 0 }
+
+pub four : (xs ys : List Operand) → length xs ≡ 4 → length ys ≡ 4 → getD xs 0 none ≡ getD ys 0 none → getD xs 1 none ≡ getD ys 1 none → getD xs 2 none ≡ getD ys 2 none → getD xs 3 none ≡ getD ys 3 none → xs ≡ ys
+four [] ys h k p q r s = absurd (omega arith)
+four (a ∷ []) ys h k p q r s = absurd (omega arith)
+four (a ∷ b ∷ []) ys h k p q r s = absurd (omega arith)
+four (a ∷ b ∷ c ∷ []) ys h k p q r s = absurd (omega arith)
+four (a ∷ b ∷ c ∷ e ∷ f ∷ xs) ys h k p q r s = absurd (omega arith)
+four (a ∷ b ∷ c ∷ e ∷ []) [] h k p q r s = absurd (omega arith)
+four (a ∷ b ∷ c ∷ e ∷ []) (a′ ∷ []) h k p q r s = absurd (omega arith)
+four (a ∷ b ∷ c ∷ e ∷ []) (a′ ∷ b′ ∷ []) h k p q r s = absurd (omega arith)
+four (a ∷ b ∷ c ∷ e ∷ []) (a′ ∷ b′ ∷ c′ ∷ []) h k p q r s = absurd (omega arith)
+four (a ∷ b ∷ c ∷ e ∷ []) (a′ ∷ b′ ∷ c′ ∷ e′ ∷ []) h k p q r s = cc
+four (a ∷ b ∷ c ∷ e ∷ []) (a′ ∷ b′ ∷ c′ ∷ e′ ∷ f′ ∷ ys) h k p q r s = absurd (omega arith)
+
+pub insn-one : (a b : Insn) → a .mnemonic ≡ b .mnemonic → a .count ≡ b .count → a .ops ≡ b .ops → a .flow ≡ b .flow → a .target ≡ b .target → a .«delay_slot» ≡ b .«delay_slot» → a .effect ≡ b .effect → a ≡ b
+insn-one a b p q r s t u v = λ i. record { mnemonic = p i; count = q i; ops = r i; flow = s i; target = t i; «delay_slot» = u i; effect = v i }

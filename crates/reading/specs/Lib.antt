@@ -1,0 +1,3 @@
+pub mod Kind
+pub mod Reading
+pub mod Numbers
