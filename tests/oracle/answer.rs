@@ -1,0 +1,191 @@
+//! One question to the Rust decoder and its answer as a line of fixed columns.
+//!
+//! Every column stands at the same offset in every line, so a program in any
+//! language can take a line apart without a parser. `tests/vectors/README.md`
+//! lists the columns.
+
+use std::io::{self, Write};
+
+use crate::mips::{decode_word, Effect, Insn, Op};
+
+/// The source never gives a word more than four operands (`ext` and `ins` do).
+pub const OPERAND_SLOTS: usize = 4;
+
+/// The mnemonic column of a refused word: one visible character, so that a
+/// refused line has as many columns as an accepted one.
+const NO_MNEMONIC: &str = "-";
+
+/// What the decoder is asked: a word at an address, with the width flag.
+///
+/// The order of the members is the order in which lists are sorted: by word
+/// first, so that one opcode's words stand together.
+#[derive(Debug, Clone, Copy, PartialEq, Eq, PartialOrd, Ord)]
+pub struct Ask {
+    pub word: u32,
+    pub va: u64,
+    pub wide: bool,
+}
+
+impl Ask {
+    pub fn decode(&self) -> Option<Insn> {
+        decode_word(self.word, self.va, self.wide)
+    }
+}
+
+/// The number of a refused word. The source only says `None`; the project tells
+/// the refusals apart by the table that refused, which the op field names.
+pub fn refusal_number(word: u32) -> u8 {
+    match word >> 26 {
+        0 => 3,  // SPECIAL
+        1 => 4,  // REGIMM
+        16 => 5, // COP0
+        17 => 6, // COP1
+        28 => 7, // SPECIAL2
+        31 => 8, // SPECIAL3
+        _ => 2,  // the op itself
+    }
+}
+
+/// The effect columns; what an effect does not have stays zero.
+#[derive(Default)]
+struct EffectColumns {
+    kind: u8,
+    first: u8,
+    second: u8,
+    size: u8,
+    value: u64,
+}
+
+impl EffectColumns {
+    /// The kinds count in the order of the source's `Effect`.
+    fn of(effect: Effect) -> EffectColumns {
+        // `as u64` keeps a negative number's two's complement, as the columns want.
+        let (kind, first, second, size, value) = match effect {
+            Effect::None => (0, 0, 0, 0, 0),
+            Effect::SetAddr(r, v) => (1, r, 0, 0, v),
+            Effect::AddImm(a, b, imm) => (2, a, b, 0, imm as u64),
+            Effect::Mem(a, b, imm, s) => (3, a, b, s, imm as u64),
+            Effect::Write(r) => (4, r, 0, 0, 0),
+        };
+        EffectColumns {
+            kind,
+            first,
+            second,
+            size,
+            value,
+        }
+    }
+}
+
+/// One operand slot; an unused slot is all zero.
+#[derive(Default, Clone, Copy)]
+struct Slot {
+    kind: u8,
+    register: u8,
+    value: u64,
+}
+
+impl Slot {
+    /// The kinds count from 1 in the order of the source's `Op`.
+    fn of(op: &Op) -> Slot {
+        let (kind, register, value) = match *op {
+            Op::Reg(r) => (1, r, 0),
+            Op::FReg(r) => (2, r, 0),
+            Op::Imm(v) => (3, 0, v as u64),
+            Op::Mem(offset, base) => (4, base, offset as u64),
+            Op::Addr(v) => (5, 0, v),
+            Op::Cop0(r) => (6, r, 0),
+        };
+        Slot {
+            kind,
+            register,
+            value,
+        }
+    }
+}
+
+fn slots_of(ops: &[Op]) -> [Slot; OPERAND_SLOTS] {
+    assert!(
+        ops.len() <= OPERAND_SLOTS,
+        "the columns have room for four operands"
+    );
+    let mut slots = [Slot::default(); OPERAND_SLOTS];
+    for (slot, op) in slots.iter_mut().zip(ops) {
+        *slot = Slot::of(op);
+    }
+    slots
+}
+
+/// All columns after the question.
+struct Columns<'a> {
+    number: u8,
+    flow: u8,
+    mark: bool,
+    target: Option<u64>,
+    effect: EffectColumns,
+    count: usize,
+    slots: [Slot; OPERAND_SLOTS],
+    mnemonic: &'a str,
+}
+
+impl<'a> Columns<'a> {
+    fn accepted(insn: &'a Insn) -> Columns<'a> {
+        Columns {
+            number: 0,
+            flow: insn.flow as u8,
+            mark: insn.delay_slot,
+            target: insn.target,
+            effect: EffectColumns::of(insn.effect),
+            count: insn.ops.len(),
+            slots: slots_of(&insn.ops),
+            mnemonic: &insn.mnemonic,
+        }
+    }
+
+    fn refused(number: u8) -> Columns<'a> {
+        Columns {
+            number,
+            flow: 0,
+            mark: false,
+            target: None,
+            effect: EffectColumns::default(),
+            count: 0,
+            slots: [Slot::default(); OPERAND_SLOTS],
+            mnemonic: NO_MNEMONIC,
+        }
+    }
+
+    fn write(&self, out: &mut impl Write) -> io::Result<()> {
+        let present = self.target.is_some() as u8;
+        let target = self.target.unwrap_or(0);
+        write!(
+            out,
+            "{} {} {} {present} {target:016x}",
+            self.number, self.flow, self.mark as u8
+        )?;
+        let e = &self.effect;
+        write!(
+            out,
+            " {} {:02x} {:02x} {} {:016x}",
+            e.kind, e.first, e.second, e.size, e.value
+        )?;
+        write!(out, " {}", self.count)?;
+        for slot in &self.slots {
+            write!(
+                out,
+                " {} {:02x} {:016x}",
+                slot.kind, slot.register, slot.value
+            )?;
+        }
+        writeln!(out, " {}", self.mnemonic)
+    }
+}
+
+/// Asks the decoder and writes the answer as one line.
+pub fn write_answer(out: &mut impl Write, ask: &Ask) -> io::Result<()> {
+    write!(out, "{} {:016x} {:08x} ", ask.wide as u8, ask.va, ask.word)?;
+    match ask.decode() {
+        Some(insn) => Columns::accepted(&insn).write(out),
+        None => Columns::refused(refusal_number(ask.word)).write(out),
+    }
+}
