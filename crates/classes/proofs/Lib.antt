@@ -1,0 +1,9 @@
+pub mod Tests
+pub mod Cover
+pub mod Boxes
+pub mod Accepts
+pub mod Find
+pub mod Uses
+pub mod Marks
+pub mod Width
+pub mod Proved

@@ -1,0 +1,89 @@
+-- Laws of tests: conjunctions, a test at each field, a test computed at every number below a bound.
+-- Assumes nothing.
+use Prim.Native.Nat.{ℕ, zero, suc, _<_}
+use mathlib.Core.Path.{_≡_, refl, sym, _∙_, ap, subst}
+use mathlib.Core.Bool.{Bool, true, false, _&&_, _||_, Bool·beq}
+use native.Mathlib.Omega.{arith}
+use lib.Dec.{T, eqb}
+use borrow.Author.Tests.{eqb-true, eqb-false}
+use Rattle.word.specs.Word.{Field, Field-discrete, op, rs, rt, rd, sa, fn}
+use Rattle.classes.specs.Meaning.{six}
+
+pub and-l : (a b : Bool) → T (a && b) → T a
+and-l true b t = tt
+and-l false b t = t
+
+pub and-r : (a b : Bool) → T (a && b) → T b
+and-r true b t = t
+and-r false b t = absurd t
+
+pub or-l : (a b : Bool) → T a → T (a || b)
+or-l true b t = tt
+or-l false b t = absurd t
+
+pub or-r : (a b : Bool) → T b → T (a || b)
+or-r true b t = tt
+or-r false b t = t
+
+-- two tests that agree
+pub beq-same : (a b : Bool) → T (Bool·beq a b) → a ≡ b
+beq-same true true t = refl
+beq-same true false t = absurd t
+beq-same false true t = absurd t
+beq-same false false t = refl
+
+-- two conjunctions, pair by pair
+zip : (a b c d : Bool) → (a && b) && (c && d) ≡ (a && c) && (b && d)
+zip false b c d = refl
+zip true false false d = refl
+zip true false true d = refl
+zip true true c d = refl
+
+pub and-true : (a : Bool) → (a && true) ≡ a
+and-true true = refl
+and-true false = refl
+
+-- both tests at each field
+pub six-and : (p q : Field → Bool) → six (λ x. p x && q x) ≡ (six p && six q)
+unfolding six
+six-and p q =
+    ap (λ (b : Bool). (p op && q op) && ((p rs && q rs) && ((p rt && q rt) && ((p rd && q rd) && b)))) (zip (p sa) (q sa) (p fn) (q fn))
+    ∙ (ap (λ (b : Bool). (p op && q op) && ((p rs && q rs) && ((p rt && q rt) && b))) (zip (p rd) (q rd) (p sa && p fn) (q sa && q fn))
+    ∙ (ap (λ (b : Bool). (p op && q op) && ((p rs && q rs) && b)) (zip (p rt) (q rt) (p rd && (p sa && p fn)) (q rd && (q sa && q fn)))
+    ∙ (ap (λ (b : Bool). (p op && q op) && b) (zip (p rs) (q rs) (p rt && (p rd && (p sa && p fn))) (q rt && (q rd && (q sa && q fn))))
+    ∙ zip (p op) (q op) (p rs && (p rt && (p rd && (p sa && p fn)))) (q rs && (q rt && (q rd && (q sa && q fn)))))))
+
+pub six-at : (p : Field → Bool) → T (six p) → (x : Field) → T (p x)
+unfolding six
+six-at p t op = and-l (p op) _ t
+six-at p t rs = and-l (p rs) _ (and-r (p op) _ t)
+six-at p t rt = and-l (p rt) _ (and-r (p rs) _ (and-r (p op) _ t))
+six-at p t rd = and-l (p rd) _ (and-r (p rt) _ (and-r (p rs) _ (and-r (p op) _ t)))
+six-at p t sa = and-l (p sa) _ (and-r (p rd) _ (and-r (p rt) _ (and-r (p rs) _ (and-r (p op) _ t))))
+six-at p t fn = and-r (p sa) (p fn) (and-r (p rd) _ (and-r (p rt) _ (and-r (p rs) _ (and-r (p op) _ t))))
+
+-- are two fields one?
+abbrev pub sameField : Field → Field → Bool
+sameField x y = elim (Field-discrete x y) [ yes e ↦ true | no n ↦ false ]
+
+pub self : (x : Field) → T (sameField x x)
+self op = tt
+self rs = tt
+self rt = tt
+self rd = tt
+self sa = tt
+self fn = tt
+
+-- a test at every number below a bound
+unfoldable pub allBelow : (ℕ → Bool) → ℕ → Bool
+allBelow p zero = true
+allBelow p (suc n) = p n && allBelow p n
+
+pub below : (p : ℕ → Bool) (n : ℕ) → T (allBelow p n) → (k : ℕ) → k < n → T (p k)
+unfolding allBelow
+below p zero t k h = absurd (omega arith)
+below p (suc n) t k h = go (eqb k n) refl (below p n (and-r (p n) (allBelow p n) t) k)
+  where
+    go : (b : Bool) → eqb k n ≡ b → (k < n → T (p k)) → T (p k)
+    go true e rec = subst (λ (m : ℕ). T (p m)) (sym (eqb-true k n e)) (and-l (p n) (allBelow p n) t)
+    go false e rec = let d : ¬ (k ≡ n) = eqb-false k n e in rec (omega arith)

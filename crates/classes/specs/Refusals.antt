@@ -1,0 +1,73 @@
+-- Which words are refused, and with which number: document 01's acceptance table, a line for each entry. It says nothing of the rows.
+-- Assumes nothing.
+use Prim.Native.Nat.{ℕ, _+_, _-_}
+use mathlib.Core.Bool.{Bool, true, false, not, cond, _&&_, _||_}
+use mathlib.Core.List.{List, [], _∷_, _++_}
+use lib.Dec.{eqb}
+use Rattle.word.specs.Word.{Field, op, rs, rt, sa, fn, Fields}
+use Rattle.reading.specs.Kind.{from}
+
+-- is the field one of these, or none of these?
+pub data Test : Type 0 where
+  _∈_ : Field → List ℕ → Test
+  _∉_ : Field → List ℕ → Test
+
+infix 80 _∈_
+infix 80 _∉_
+unfoldable pub elem : ℕ → List ℕ → Bool
+elem a [] = false
+elem a (v ∷ vs) = eqb a v || elem a vs
+
+unfoldable pub holds : Test → Fields → Bool
+holds (x ∈ vs) f = elem (f x) vs
+holds (x ∉ vs) f = not (elem (f x) vs)
+
+-- an entry: its number, and the tests that a word meets which it refuses
+pub record Refusal : Type 0 where
+  pub number : ℕ
+  pub tests : List Test
+
+abbrev pub refuse : ℕ → List Test → Refusal
+refuse n ts = record { number = n; tests = ts }
+
+unfoldable pub meets : List Test → Fields → Bool
+meets [] f = true
+meets (t ∷ ts) f = holds t f && meets ts f
+
+-- the number of the first entry that refuses the word; 0 if none does
+unfoldable pub refusal : List Refusal → Fields → ℕ
+refusal [] f = 0
+refusal (e ∷ es) f = cond (meets (e .tests) f) (e .number) (refusal es f)
+
+-- from a to b
+abbrev pub _to_ : ℕ → ℕ → List ℕ
+a to b = from a (b + 1 - a)
+
+infix 70 _to_
+abbrev pub only : ℕ → List ℕ
+only v = v ∷ []
+
+-- the four formats that have arithmetic: s, d, w, l
+abbrev pub arithmetic : List ℕ
+arithmetic = 16 ∷ 17 ∷ 20 ∷ 21 ∷ []
+
+unfoldable pub refusals : List Refusal
+refusals =
+    -- op
+    refuse 2 (op ∈ (18 ∷ 19 ∷ 29 ∷ 30 ∷ 50 ∷ 54 ∷ 58 ∷ 59 ∷ 62 ∷ []) ∷ []) ∷
+    -- SPECIAL, by funct
+    refuse 3 (op ∈ only 0 ∷ fn ∈ (1 ∷ 5 ∷ 14 ∷ 21 ∷ 40 ∷ 41 ∷ 53 ∷ 55 ∷ 57 ∷ 61 ∷ []) ∷ []) ∷
+    -- REGIMM, by rt
+    refuse 4 (op ∈ only 1 ∷ rt ∉ (0 to 3 ++ 16 ∷ 17 ∷ []) ∷ []) ∷
+    -- COP0, by rs; rs 16 by funct
+    refuse 5 (op ∈ only 16 ∷ rs ∉ (0 ∷ 4 ∷ 16 ∷ []) ∷ []) ∷
+    refuse 5 (op ∈ only 16 ∷ rs ∈ only 16 ∷ fn ∉ (24 ∷ 32 ∷ []) ∷ []) ∷
+    -- COP1, by fmt, the rs bits; 16, 17, 20 and 21 by funct
+    refuse 6 (op ∈ only 17 ∷ rs ∈ (3 ∷ 7 ∷ 9 to 15 ++ 18 ∷ 19 ∷ 22 to 31) ∷ []) ∷
+    refuse 6 (op ∈ only 17 ∷ rs ∈ arithmetic ∷ fn ∉ (0 to 7 ++ 13 ∷ 32 ∷ 33 ∷ 36 ∷ 37 ∷ 50 ∷ 60 ∷ 62 ∷ []) ∷ []) ∷
+    -- SPECIAL2, by funct
+    refuse 7 (op ∈ only 28 ∷ fn ∉ (0 ∷ 1 ∷ 2 ∷ 4 ∷ 32 ∷ 33 ∷ []) ∷ []) ∷
+    -- SPECIAL3, by funct; 32 by sa
+    refuse 8 (op ∈ only 31 ∷ fn ∉ (0 ∷ 4 ∷ 32 ∷ 59 ∷ []) ∷ []) ∷
+    refuse 8 (op ∈ only 31 ∷ fn ∈ only 32 ∷ sa ∉ (2 ∷ 16 ∷ 24 ∷ []) ∷ []) ∷
+    []
