@@ -5,7 +5,7 @@ crates/classes/specs, read words by them, and compare every part of every readin
     check.py REPOSITORY < ANSWERS
 
 ANSWERS are lines of tests/vectors/README.md's format. What the tables' words mean (`Meaning.antt`, `Numbers.antt`) is written
-here a second time, from document 01.
+here a second time, from document 01. The mnemonic kinds of the code are held against those of the specs too.
 """
 import re
 import sys
@@ -20,9 +20,20 @@ MARKED = ("call", "jump", "branch", "byRegister")
 RET, JUMP, RA = 4, 2, 31
 
 
-def text_of(repository, name):
-    with open(f"{repository}/crates/classes/specs/{name}.antt", encoding="utf-8") as file:
+def text_of(repository, path):
+    with open(f"{repository}/crates/{path}", encoding="utf-8") as file:
         return file.read()
+
+
+# ── the mnemonic kinds ──
+
+
+def kinds_agree(repository):
+    """How many kinds there are, if the constants of the code have the numbers of the specs; else nothing."""
+    code = re.findall(r"^pub const (\w+): u8 = (\d+);$", text_of(repository, "reading/src/kind.rt"), re.M)
+    specs = re.findall(r"^abbrev pub (\S+) : ℕ\n\S+ = (\d+)$", text_of(repository, "reading/specs/Kind.antt"), re.M)
+    named = [(name.replace("-", "_").upper(), number) for name, number in specs if name != "many"]
+    return len(code) if code == named else None
 
 
 # ── the table of classes, as text ──
@@ -191,8 +202,11 @@ def answer(tables, refusals, wide, va, word):
 
 def main():
     repository = sys.argv[1]
-    tables = tables_of(text_of(repository, "Table"))
-    refusals = refusals_of(text_of(repository, "Refusals"))
+    tables = tables_of(text_of(repository, "classes/specs/Table.antt"))
+    refusals = refusals_of(text_of(repository, "classes/specs/Refusals.antt"))
+    kinds = kinds_agree(repository)
+    if kinds is None:
+        sys.exit("a mnemonic kind has one number in reading/src/kind.rt and another in reading/specs/Kind.antt")
     compared = 0
     for line in sys.stdin:
         line = line.rstrip("\n")
@@ -202,7 +216,7 @@ def main():
             sys.exit(f"the Rust:       {line}\nthe definition: {ours} ({rows} rows)")
         compared += 1
     classes = [len(tables[wide]) for wide in (False, True)]
-    print(f"{compared} answers, {classes[0]} classes without the flag, {classes[1]} with it, {len(refusals)} entries of refusals")
+    print(f"{compared} answers, {classes[0]} classes without the flag, {classes[1]} with it, {len(refusals)} entries of refusals, {kinds} kinds")
 
 
 main()

@@ -11,7 +11,6 @@ use Rattle.word.specs.Word.{Field, op, rs, rt, rd, sa, fn}
 -- hint, a sel, a cc)
 pub data Why : Type 0 where
   fixed dropped : Why
-  deriving Discrete as Why-discrete
 
 -- what a class asks of a field
 pub data Pat : Type 0 where
@@ -21,7 +20,6 @@ pub data Pat : Type 0 where
   skip : Why → Pat  -- any value; not read
   skipBut : ℕ → Pat  -- any value but this; not read
   low : ℕ → Pat  -- its two low bits have this value; the others are not read
-  deriving Discrete as Pat-discrete
 
 -- not read, with the one reason or the other
 abbrev pub zeros : Pat
@@ -39,7 +37,6 @@ pub data Code : Type 0 where
   s16 u16 : Code  -- the immediate, signed and not
   mem : Code  -- the signed immediate, and base rs
   br jmp : Code  -- the target of a branch and of a jump
-  deriving Discrete as Code-discrete
 
 -- the operands of a class, in the order of the manual's Format line. Those of `ins` and `jalr` end in a way of their own
 pub data Form : Type 0 where
@@ -47,7 +44,6 @@ pub data Form : Type 0 where
   _▸_ : Code → Form → Form
   posSize : Form  -- sa, and the size of `ins`
   link : Form  -- rd and rs; rs alone for rd 31
-  deriving Discrete as Form-discrete
 
 infixr 40 _▸_
 -- ── control and effect ──
@@ -56,7 +52,6 @@ infixr 40 _▸_
 pub data Control : Type 0 where
   plain call jump branch return interrupt : Control
   byRegister : Control  -- Ret for register 31, else Jump
-  deriving Discrete as Control-discrete
 
 -- the effect, made of the operands
 pub data Change : Type 0 where
@@ -66,7 +61,6 @@ pub data Change : Type 0 where
   sets : Change  -- AddImm of the first, register 0 and the second
   setsUpper : Change  -- SetAddr of the first, with the second as lui leaves it
   loads stores : ℕ → Change  -- Mem, of this size; a store has register 0 first
-  deriving Discrete as Change-discrete
 
 -- ── a row ──
 
