@@ -8,6 +8,7 @@ ghost use Rattle.reading.specs.Reading.{blankInsn, refusedOf};
 ghost use Rattle.reading.specs.Numbers.{parts, opParts, effectParts, targetParts, flowNumber};
 
 pub mod kind;
+pub mod refusal;
 
 pub enum Op {
     Reg(u8),

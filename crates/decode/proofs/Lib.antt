@@ -1,0 +1,7 @@
+pub mod Facts
+pub mod Rows
+pub mod Entries
+pub mod Arms
+pub mod Flags
+pub mod Formats
+pub mod Bytes

@@ -1,0 +1,113 @@
+-- A row that takes every word of which these facts are known: found by trying the values that the fields can still have.
+-- Assumes nothing.
+use Prim.Native.Nat.{_+_, _≤_, _%_}
+use mathlib.Core.Path.{_≡_, refl, ap, subst}
+use mathlib.Core.Bool.{Bool, true, false, not, cond, _&&_, _||_}
+use mathlib.Core.List.{List, [], _∷_}
+use mathlib.Core.Option.{Option, none, some, Option·none-ne-some}
+use native.Mathlib.Omega.{arith}
+use lib.Dec.{T, eqb}
+use Rattle.word.specs.Word.{Field, op, rs, rt, rd, sa, fn, Fields, Fit}
+use Rattle.classes.specs.Row.{Pat, is, read, readBut, skip, skipBut, low, Row, patOf}
+use Rattle.classes.specs.Meaning.{match, six, nopLike, takes, find}
+use Rattle.classes.specs.Theorems.{taking}
+use Rattle.classes.proofs.Tests.{and-l, and-r, six-at}
+use Rattle.classes.proofs.Boxes.{bit}
+use Rattle.decode.proofs.Facts.{Fact, _≐_, _≠_, _noneOf_, _lowIs_, _lowNoneOf_, busy, Known, at-true, and-i, sure, sure-holds}
+
+-- ── the row that takes the word ──
+
+unfoldable pub surely : List Fact → Field → Pat → Bool
+surely ks x (is v) = sure ks x (λ a. eqb a v)
+surely ks x read = true
+surely ks x (readBut v) = sure ks x (λ a. not (eqb a v))
+surely ks x (skip y) = true
+surely ks x (skipBut v) = sure ks x (λ a. not (eqb a v))
+surely ks x (low v) = sure ks x (λ a. eqb (a % 4) v)
+
+surely-match : (ks : List Fact) (f : Fields) → Known f ks → Fit f → (x : Field) (q : Pat) → T (surely ks x q) → T (match q (f x))
+unfolding surely match
+surely-match ks f h i x (is v) t = sure-holds ks f h i x (λ a. eqb a v) t
+surely-match ks f h i x read t = tt
+surely-match ks f h i x (readBut v) t = sure-holds ks f h i x (λ a. not (eqb a v)) t
+surely-match ks f h i x (skip y) t = tt
+surely-match ks f h i x (skipBut v) t = sure-holds ks f h i x (λ a. not (eqb a v)) t
+surely-match ks f h i x (low v) t = sure-holds ks f h i x (λ a. eqb (a % 4) v) t
+
+unfoldable pub isBusy : List Fact → Bool
+isBusy [] = false
+isBusy ((y ≐ v) ∷ ks) = isBusy ks
+isBusy ((y ≠ v) ∷ ks) = isBusy ks
+isBusy ((y noneOf vs) ∷ ks) = isBusy ks
+isBusy ((y lowIs v) ∷ ks) = isBusy ks
+isBusy ((y lowNoneOf vs) ∷ ks) = isBusy ks
+isBusy (busy ∷ ks) = true
+
+busy-is : (ks : List Fact) (f : Fields) → Known f ks → T (isBusy ks) → nopLike f ≡ false
+unfolding isBusy
+busy-is [] f h t = absurd t
+busy-is ((y ≐ v) ∷ ks) f h t = busy-is ks f (h .1) t
+busy-is ((y ≠ v) ∷ ks) f h t = busy-is ks f (h .1) t
+busy-is ((y noneOf vs) ∷ ks) f h t = busy-is ks f (h .1) t
+busy-is ((y lowIs v) ∷ ks) f h t = busy-is ks f (h .1) t
+busy-is ((y lowNoneOf vs) ∷ ks) f h t = busy-is ks f (h .1) t
+busy-is (busy ∷ ks) f h t = h .0
+
+unfoldable pub certain : List Fact → Row → Bool
+certain ks r = six (λ x. surely ks x (patOf r x)) && (not (r .nops) || isBusy ks)
+
+six-i : (p q : Field → Bool) → ((x : Field) → T (p x) → T (q x)) → T (six p) → T (six q)
+unfolding six
+six-i p q h t =
+    and-i (q op) _ (h op (six-at p t op))
+    (and-i (q rs) _ (h rs (six-at p t rs))
+    (and-i (q rt) _ (h rt (six-at p t rt))
+    (and-i (q rd) _ (h rd (six-at p t rd))
+    (and-i (q sa) (q fn) (h sa (six-at p t sa)) (h fn (six-at p t fn))))))
+
+not-nop : (b n : Bool) (k : Bool) → T (not b || k) → (T k → n ≡ false) → T (not (b && n))
+not-nop true n k t h = at-true (ap not (h t))
+not-nop false n k t h = tt
+
+certain-takes : (ks : List Fact) (f : Fields) → Known f ks → Fit f → (r : Row) → T (certain ks r) → T (takes r f)
+unfolding certain takes
+certain-takes ks f h i r t =
+    and-i (six (λ x. match (patOf r x) (f x))) (not (r .nops && nopLike f))
+    (six-i (λ x. surely ks x (patOf r x)) (λ x. match (patOf r x) (f x)) (λ x. surely-match ks f h i x (patOf r x))
+    (and-l (six (λ x. surely ks x (patOf r x))) (not (r .nops) || isBusy ks) t))
+    (not-nop (r .nops) (nopLike f) (isBusy ks) (and-r (six (λ x. surely ks x (patOf r x))) (not (r .nops) || isBusy ks) t) (busy-is ks f h))
+
+-- the first such row
+unfoldable pub chosen : List Fact → List Row → Option Row
+chosen ks [] = none
+chosen ks (r ∷ ts) = elim (certain ks r) [ true ↦ some r | false ↦ chosen ks ts ]
+
+-- it takes the word, so some row does
+chosen-taking : (ks : List Fact) (f : Fields) → Known f ks → Fit f → (ts : List Row) (r : Row) → chosen ks ts ≡ some r → 1 ≤ taking ts f
+unfolding chosen taking
+chosen-taking ks f h i [] r e = absurd (Option·none-ne-some r e)
+chosen-taking ks f h i (s ∷ ts) r e = go (certain ks s) refl e (chosen-taking ks f h i ts r)
+  where
+    taken : (b : Bool) → T b → 1 ≤ bit b + taking ts f
+    taken true t = omega arith
+    taken false t = absurd t
+
+    go : (b : Bool) → certain ks s ≡ b → elim b [ true ↦ some s | false ↦ chosen ks ts ] ≡ some r → (chosen ks ts ≡ some r → 1 ≤ taking ts f) →
+        1 ≤ bit (takes s f) + taking ts f
+    go true c d rec = taken (takes s f) (certain-takes ks f h i s (at-true c))
+    go false c d rec = omega (arith, rec d)
+
+-- if no two rows take the word, it is the one that is found
+pub chosen-found : (ks : List Fact) (f : Fields) → Known f ks → Fit f → (ts : List Row) → taking ts f ≤ 1 → (r : Row) → chosen ks ts ≡ some r →
+    find ts f ≡ some r
+unfolding chosen taking find
+chosen-found ks f h i [] u r e = absurd (Option·none-ne-some r e)
+chosen-found ks f h i (s ∷ ts) u r e = go (certain ks s) refl (takes s f) refl u e (chosen-found ks f h i ts)
+  where
+    go : (b : Bool) → certain ks s ≡ b → (t : Bool) → takes s f ≡ t → bit t + taking ts f ≤ 1 →
+        elim b [ true ↦ some s | false ↦ chosen ks ts ] ≡ some r →
+        (taking ts f ≤ 1 → (r : Row) → chosen ks ts ≡ some r → find ts f ≡ some r) → cond t (some s) (find ts f) ≡ some r
+    go true c true d v e rec = e
+    go true c false d v e rec = absurd (subst T d (certain-takes ks f h i s (at-true c)))
+    go false c true d v e rec = absurd (omega (arith, chosen-taking ks f h i ts r e))
+    go false c false d v e rec = rec (omega arith) r e

@@ -1,0 +1,32 @@
+use Prim.Native.Nat.{ℕ}
+use mathlib.Core.Path.{_∙_, ap}
+use denote.Ref.{now}
+use borrow.Author.Needs.{needs}
+use Rattle.classes.specs.Decoded.{decodedOf}
+use Rattle.decode.proofs.Bytes.{too-short, first-four}
+use Rattle.decode.proofs.decode.Statement.{statement}
+use Rattle.decode.proofs.decode.Tie as tie
+
+returns : tie.Need-returns
+returns c = c .refused .ensures ∙ too-short (now (c .before .before .before .args .bytes)) _ _ _ (c .before .if1 .taken)
+
+returns-2 : tie.Need-returns-2
+returns-2 c =
+    let a = c .before .before .before .before .before .before .before .before .args in
+    c .decode-word .ensures
+    ∙ (ap (λ (w : ℕ). decodedOf w (a .va) (a .bits64)) (c .before .word-in .ensures)
+    ∙ first-four (now (a .bytes)) (a .va) (a .big-endian) (a .bits64) (c .before .before .before .before .before .before .if1 .left))
+
+pub decode-spec : {M : Type 1} → statement M
+decode-spec =
+    tie.close
+    (tie.spec
+    (λ c κs. search needs)
+    returns
+    (λ c. search needs)
+    (λ c. search needs)
+    (λ c. search needs)
+    (λ c. search needs)
+    (λ c κs. search needs)
+    (λ c κs. search needs)
+    returns-2)

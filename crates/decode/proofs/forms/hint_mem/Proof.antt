@@ -1,0 +1,31 @@
+use mir.Facts.{toZ-ofZ}
+use borrow.Author.Needs.{needs}
+use Rattle.classes.specs.Meaning.{reading, outs, out, flowOf, targetIn, markOf, effectOf}
+use Rattle.decode.proofs.forms.hint_mem.Statement.{statement}
+use Rattle.decode.proofs.forms.hint_mem.Tie as tie
+
+returns : tie.Need-returns
+unfolding reading outs out flowOf targetIn markOf effectOf
+returns c va =
+    rw (
+      c .i .ensures,
+      c .before .two .ensures,
+      c .before .before .rs .ensures,
+      toZ-ofZ {z = c .before .before .before .simm .result} (record { sfits = c .before .before .before .simm .ok }),
+      c .before .before .before .simm .ensures,
+      toZ-ofZ {z = c .before .before .before .before .number .result} (record { sfits = c .before .before .before .before .number .ok }),
+      c .before .before .before .before .number .ensures,
+      c .before .before .before .before .before .rt .ensures,
+    )
+
+pub hint-mem-spec : {M : Type 1} → statement M
+hint-mem-spec =
+    tie.close
+    (tie.spec
+    (λ c κs. search needs)
+    (λ c κs. search needs)
+    (λ c κs. search needs)
+    (λ c κs. search needs)
+    (λ c κs. search needs)
+    (λ c κs. search needs)
+    returns)

@@ -1,0 +1,22 @@
+use borrow.Author.Needs.{needs}
+use Rattle.classes.specs.Meaning.{outs, out, targetIn}
+use Rattle.decode.proofs.forms.jump.Statement.{statement}
+use Rattle.decode.proofs.forms.jump.Tie as tie
+
+returns : tie.Need-returns
+unfolding outs out targetIn
+returns c =
+    rw (
+      c .turn .ensures,
+      c .before .one .ensures,
+      c .before .before .jump-target .ensures,
+    )
+
+pub jump-spec : {M : Type 1} → statement M
+jump-spec =
+    tie.close
+    (tie.spec
+    (λ c κs. search needs)
+    (λ c κs. search needs)
+    (λ c κs. search needs)
+    returns)

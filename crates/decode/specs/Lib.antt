@@ -1,0 +1,4 @@
+pub mod Answer
+pub mod Class
+pub mod Groups
+pub mod Bytes
