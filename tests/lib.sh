@@ -69,3 +69,49 @@ same_file() {
     diff "$1" "$2" | head -n 6 >&2 || true
     failed "$3"
 }
+
+# SHA-256 of mips.rs as published; tests/oracle/README.md says where.
+MIPS_RS_DIGEST=cc7f1dc8aed47efc72e2e2855794ba6a72bbe6121b7f11334d29b49f56f46db0
+
+# build_oracle SOURCES FOLDER: the driver around the unchanged Rust decoder, of
+# tests/oracle, as FOLDER/oracle.
+build_oracle() {
+    digest=$(sha256sum "$1/mips.rs" | cut -d ' ' -f 1)
+    [ "$digest" = "$MIPS_RS_DIGEST" ] || failed "mips.rs is not the published file"
+    need_tool cc gcc
+    need_tool rustc rustc
+    mkdir -p "$2"
+    rustc -O --edition 2021 -o "$2/oracle" "$1/main.rs" || failed "the driver does not build"
+}
+
+# need_program PROGRAM: goes on if `rt` has built the program. Without it there
+# is nothing to compare; under CI `rt ci` has run before, so there it is a failure.
+need_program() {
+    [ -x "$1" ] && return 0
+    missing="target/bin/${1##*/} is missing; \`rt check ${1##*/}\` builds it"
+    if [ "${CI:-}" = true ]; then
+        failed "$missing"
+    fi
+    skipped "$missing"
+}
+
+# Where the package libc6-amd64-cross puts the C library of x86-64.
+X86_LIBC=/usr/x86_64-linux-gnu/lib
+X86_LOADER=$X86_LIBC/ld-linux-x86-64.so.2
+
+# need_x86: goes on if programs for x86-64, as `rt` builds them, can be run.
+need_x86() {
+    [ "$(uname -m)" = x86_64 ] && return 0
+    need_tool qemu-x86_64 qemu-user
+    need_tool "$X86_LOADER" libc6-amd64-cross
+}
+
+# run_x86 PROGRAM: runs a program for x86-64, on another machine in an emulator.
+# `need_x86` comes first, outside any pipe, where it can end the test.
+run_x86() {
+    if [ "$(uname -m)" = x86_64 ]; then
+        "$1"
+    else
+        qemu-x86_64 "$X86_LOADER" --library-path "$X86_LIBC" "$1"
+    fi
+}

@@ -1,10 +1,12 @@
 //! Driver around the unchanged Rust decoder, for comparing the project with it.
 //!
 //! Without an argument it answers the questions on standard input in columns;
-//! `text` answers them in listing lines; `vectors` prints the kept list.
+//! `text` answers them in listing lines; `vectors` prints the kept list, and
+//! `many` as many answers as it is told to.
 
 mod answer;
 mod input;
+mod many;
 // The file is kept as published: the driver does not call all of it, and
 // formatting must not touch it.
 #[allow(dead_code)]
@@ -18,7 +20,7 @@ use std::env;
 use std::io::{self, BufWriter, Write};
 use std::process::exit;
 
-const USAGE: &str = "usage: oracle [text | vectors]";
+const USAGE: &str = "usage: oracle [text | vectors | many COUNT SEED]";
 const STATUS_FAILED: i32 = 1;
 const STATUS_USAGE: i32 = 2;
 
@@ -30,6 +32,14 @@ enum Mode {
     Columns,
     Text,
     Vectors,
+    Many { count: u64, seed: u64 },
+}
+
+fn many_of(count: &str, seed: &str) -> Option<Mode> {
+    Some(Mode::Many {
+        count: count.parse().ok()?,
+        seed: seed.parse().ok()?,
+    })
 }
 
 fn mode_of(arguments: &[String]) -> Option<Mode> {
@@ -37,6 +47,7 @@ fn mode_of(arguments: &[String]) -> Option<Mode> {
         [] => Some(Mode::Columns),
         [one] if one == "text" => Some(Mode::Text),
         [one] if one == "vectors" => Some(Mode::Vectors),
+        [one, count, seed] if one == "many" => many_of(count, seed),
         _ => None,
     }
 }
@@ -49,6 +60,9 @@ fn run(mode: Mode, out: &mut impl Write) -> io::Result<()> {
         Mode::Vectors => vectors::list()
             .iter()
             .try_for_each(|ask| answer::write_answer(out, ask)),
+        Mode::Many { count, seed } => {
+            many::for_each_ask(count, seed, |ask| answer::write_answer(out, ask))
+        }
     }
 }
 

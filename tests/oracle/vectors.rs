@@ -2,7 +2,8 @@
 //!
 //! The list is a table of places to sample, not of words: each row fixes the
 //! fields that make a place, and a small generator with a fixed seed fills the
-//! rest, so fields that the decoder does not read are filled as well.
+//! rest, so fields that the decoder does not read are filled as well. `many.rs`
+//! samples the same places at scale.
 
 use std::collections::BTreeSet;
 
@@ -272,13 +273,17 @@ const BRANCHES: &[Fixed] = &[
 const INDEXES: &[u32] = &[0, 1, 0x03ff_ffff];
 
 /// Splitmix64: a few lines, and the same numbers on every machine.
-struct Random {
+pub struct Random {
     state: u64,
 }
 
 const SEED: u64 = 0x6361_6c6d_7572_6564;
 
 impl Random {
+    pub fn new(seed: u64) -> Random {
+        Random { state: seed }
+    }
+
     fn next(&mut self) -> u64 {
         self.state = self.state.wrapping_add(0x9e37_79b9_7f4a_7c15);
         let mut z = self.state;
@@ -287,12 +292,26 @@ impl Random {
         z ^ (z >> 31)
     }
 
-    fn word(&mut self) -> u32 {
+    pub fn bit(&mut self) -> bool {
+        self.next() >> 63 == 1
+    }
+
+    pub fn word(&mut self) -> u32 {
         (self.next() >> 32) as u32
     }
 
+    /// What stands in the free fields of a place's nth sample: all zeros and
+    /// all ones once each, since those are the limits, else anything.
+    pub fn filling(&mut self, sample: u64) -> u32 {
+        match sample {
+            1 => 0,
+            2 => !0,
+            _ => self.word(),
+        }
+    }
+
     /// Half of the addresses are at the limits, half are any.
-    fn address(&mut self) -> u64 {
+    pub fn address(&mut self) -> u64 {
         let pick = self.next();
         if pick & 1 == 0 {
             ADDRESSES[(pick >> 1) as usize % ADDRESSES.len()]
@@ -324,21 +343,11 @@ impl List {
         self.add(word, va, true);
     }
 
-    /// What stands in the free fields of a place's nth sample: all zeros and
-    /// all ones once each, since those are the limits, else anything.
-    fn filling(&mut self, sample: u32) -> u32 {
-        match sample {
-            1 => 0,
-            2 => !0,
-            _ => self.random.word(),
-        }
-    }
-
     /// The flag takes turns, so that a value with two samples has both.
     fn add_sweep(&mut self, place: &Sweep) {
         for value in 0..place.runs.values() {
             for sample in 0..place.each {
-                let word = with_fixed(self.filling(sample), place.fixed);
+                let word = with_fixed(self.random.filling(sample.into()), place.fixed);
                 let va = self.random.address();
                 self.add(place.runs.put(word, value), va, (value + sample) % 2 == 1);
             }
@@ -411,7 +420,7 @@ impl List {
 pub fn list() -> Vec<Ask> {
     let mut list = List {
         asks: BTreeSet::new(),
-        random: Random { state: SEED },
+        random: Random::new(SEED),
     };
     SWEEPS.iter().for_each(|place| list.add_sweep(place));
     SPOTS.iter().for_each(|fixed| list.add_spot(fixed));
@@ -430,4 +439,74 @@ pub fn list() -> Vec<Ask> {
     list.add_jump(JAL);
     list.add_ins_sizes();
     list.asks.into_iter().collect()
+}
+
+/// A place as bits of the word: `mask` has those that it fixes, `bits` has what
+/// they are.
+#[derive(Clone, Copy)]
+pub struct Place {
+    mask: u32,
+    bits: u32,
+}
+
+impl Place {
+    /// Fixes nothing: any word.
+    pub const ANY: Place = Place { mask: 0, bits: 0 };
+
+    fn of(fixed: &[(Field, u32)]) -> Place {
+        fixed
+            .iter()
+            .fold(Place::ANY, |place, &(field, value)| place.and(field, value))
+    }
+
+    fn whole(word: u32) -> Place {
+        Place {
+            mask: !0,
+            bits: word,
+        }
+    }
+
+    fn and(self, field: Field, value: u32) -> Place {
+        Place {
+            mask: field.put(self.mask, field.values() - 1),
+            bits: field.put(self.bits, value),
+        }
+    }
+
+    fn and_each(self, field: Field) -> impl Iterator<Item = Place> {
+        (0..field.values()).map(move |value| self.and(field, value))
+    }
+
+    /// The word with the fixed bits, and `filling` in all others.
+    pub fn word(self, filling: u32) -> u32 {
+        (filling & !self.mask) | self.bits
+    }
+}
+
+/// Every place of the tables above, once.
+pub fn places() -> Vec<Place> {
+    let mut places = Vec::new();
+    for place in SWEEPS {
+        places.extend(Place::of(place.fixed).and_each(place.runs));
+    }
+    places.extend(SPOTS.iter().map(|fixed| Place::of(fixed)));
+    places.extend(WHOLE_WORDS.iter().map(|&word| Place::whole(word)));
+    places.extend(EXAMPLES.iter().map(|&(_, word)| Place::whole(word)));
+    for &imm in IMMEDIATES {
+        let branches = BRANCHES.iter().map(|fixed| Place::of(fixed));
+        places.extend(branches.map(|place| place.and(IMM, imm)));
+        for &(rs, rt) in LIMIT_REGISTERS {
+            let registers = Place::of(&[(RS, rs), (RT, rt), (IMM, imm)]);
+            places.extend(IMMEDIATE_OPS.iter().map(|&op| registers.and(OP, op)));
+        }
+    }
+    for &index in INDEXES {
+        let jump = Place::of(&[(INDEX, index)]);
+        places.extend([J, JAL].iter().map(|&op| jump.and(OP, op)));
+    }
+    // The sizes of `ins`, by either end.
+    let ins = Place::of(&[(OP, SPECIAL3), (FUNCT, 4)]);
+    places.extend(ins.and_each(RD));
+    places.extend(ins.and_each(SA));
+    places
 }

@@ -1,0 +1,106 @@
+-- Document 01's examples that are marked P, a line of the table for each word. Where the document has no address the line holds at every
+-- address; each holds with and without the width flag. What such a word is encoded to joins as a further column when there is an encoder.
+-- Assumes nothing.
+use Prim.Native.Nat.{ℕ}
+use mathlib.Core.Path.{_≡_}
+use mathlib.Core.Bool.{Bool, false}
+use mathlib.Core.List.{List, [], _∷_}
+use lib.IntN.{pos, _-ℤ_}
+use lib.ListN.{length}
+use Rattle.reading.specs.declared.Op.{Op}
+use Rattle.reading.specs.declared.Op.the-variants.{Reg, Imm, Addr}
+use Rattle.reading.specs.declared.Target.the-variants as target
+use Rattle.reading.specs.declared.Insn.{Insn}
+use Rattle.reading.specs.declared.Decoded.{Decoded}
+use Rattle.reading.specs.Reading.{refusedOf}
+use Rattle.reading.specs.Kind as kind
+use Rattle.classes.specs.Meaning.{slots}
+use Rattle.classes.specs.Decoded.{decodedOf}
+
+-- ── what an example says ──
+
+pub data Place : Type 0 where
+  anywhere : Place
+  at : ℕ → Place
+
+-- what it says of the answer, and no more than that
+pub data Answer : Type 0 where
+  reads : ℕ → List Op → Answer  -- accepted, with this mnemonic and these operands
+  unmarked : ℕ → List Op → Answer  -- the same, and no mark
+  goes : ℕ → Answer  -- accepted, with this target
+  refused : ℕ → Answer  -- refused with this number
+
+abbrev pub Reads : ℕ → List Op → Decoded → Type 0
+Reads k os d = (d .number ≡ 0) × (d .insn .mnemonic ≡ k) × (d .insn .count ≡ length os) × (d .insn .ops ≡ slots os)
+
+abbrev pub Answers : Answer → Decoded → Type 0
+Answers (reads k os) d = Reads k os d
+Answers (unmarked k os) d = Reads k os d × (d .insn .«delay_slot» ≡ false)
+Answers (goes a) d = (d .number ≡ 0) × (d .insn .target ≡ target.At a)
+Answers (refused n) d = d ≡ refusedOf n
+
+pub record Line : Type 0 where
+  pub word : ℕ
+  pub place : Place
+  pub answer : Answer
+
+abbrev pub line : ℕ → Place → Answer → Line
+line w p a = record { word = w; place = p; answer = a }
+
+-- ── its operands ──
+
+abbrev pub zero-register : Op
+zero-register = Reg 0
+
+abbrev pub v0 : Op
+v0 = Reg 2
+
+abbrev pub a0 : Op
+a0 = Reg 4
+
+abbrev pub value : ℕ → Op
+value n = Imm (pos n)
+
+abbrev pub minus : ℕ → Op
+minus n = Imm (pos 0 -ℤ pos n)
+
+abbrev pub address : ℕ → Op
+address a = Addr a
+
+-- ── the examples ──
+
+unfoldable pub examples : List Line
+examples =
+    line 0x00000000 anywhere (reads kind.nop []) ∷
+    line 0x00200000 anywhere (reads kind.sll (zero-register ∷ zero-register ∷ value 0 ∷ [])) ∷
+    line 0x00400000 anywhere (reads kind.sll (zero-register ∷ zero-register ∷ value 0 ∷ [])) ∷
+    line 0x08000001 (at 0xfffffffffffffffc) (goes 4) ∷
+    line 0x08000000 (at 0x0ffffffc) (goes 0x10000000) ∷
+    line 0x1000ffff (at 0x1000) (reads kind.b (address 0x1000 ∷ [])) ∷
+    line 0x0401ffff (at 0x1000) (reads kind.b (address 0x1000 ∷ [])) ∷
+    line 0x24020005 anywhere (reads kind.li (v0 ∷ value 5 ∷ [])) ∷
+    line 0x64020005 anywhere (reads kind.li (v0 ∷ value 5 ∷ [])) ∷
+    line 0x34020005 anywhere (reads kind.li (v0 ∷ value 5 ∷ [])) ∷
+    line 0x3402ffff anywhere (reads kind.li (v0 ∷ value 65535 ∷ [])) ∷
+    line 0x2402ffff anywhere (reads kind.li (v0 ∷ minus 1 ∷ [])) ∷
+    line 0x7c821944 anywhere (reads kind.ins (v0 ∷ a0 ∷ value 5 ∷ minus 1 ∷ [])) ∷
+    line 0x42000018 anywhere (unmarked kind.eret []) ∷
+    line 0x00000035 anywhere (refused 3) ∷
+    line 0x7c000001 anywhere (refused 8) ∷
+    []
+
+-- ── every one of them holds ──
+
+abbrev pub HoldsAt : ℕ → Line → Type 0
+HoldsAt va l = (wide : Bool) → Answers (l .answer) (decodedOf (l .word) va wide)
+
+abbrev pub Placed : Place → Line → Type 0
+Placed anywhere l = (va : ℕ) → HoldsAt va l
+Placed (at a) l = HoldsAt a l
+
+unfoldable pub Every : List Line → Type 0
+Every [] = Unit {0}
+Every (l ∷ ls) = Placed (l .place) l × Every ls
+
+abbrev pub Examples : Type 0
+Examples = Every examples
