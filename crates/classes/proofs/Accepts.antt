@@ -17,8 +17,9 @@ use Rattle.classes.specs.Table.{common, byWidth, table}
 use Rattle.classes.specs.Refusals.{elem, Refusal, meets, refusal, refusals}
 use Rattle.classes.specs.Decoded.{readingBy, acceptedAs, decodedBy, decodedOf}
 use Rattle.classes.specs.Theorems.{taking, Acceptance}
-use Rattle.classes.proofs.Tests.{and-l, and-r, allBelow}
-use Rattle.classes.proofs.Cover.{keep, allFree, ones}
+use Rattle.classes.proofs.Tests.{and-l, and-r}
+use Rattle.classes.proofs.Walk.{spread, walk, sift, freeIn, markIn}
+use Rattle.classes.proofs.Cover.{ones}
 use Rattle.classes.proofs.Boxes.{bit, guardOf, boxesBy, boxes, testBox, testsBox, refusedBoxes, refusing, exact, taken-or-refused}
 
 -- ── any two tables ──
@@ -99,7 +100,7 @@ module _ (ts : List Row) (es : List Refusal) (t : T (exact ts es)) (f : Fields) 
 -- ── the two tables of the definition ──
 
 pub exact-table : (wide : Bool) → T (exact (table wide) refusals)
-unfolding exact ones keep allFree allBelow boxes boxesBy guardOf refusedBoxes testsBox testBox match elem from refusals table common byWidth
+unfolding exact ones walk spread sift freeIn markIn boxes boxesBy guardOf refusedBoxes testsBox testBox match elem from refusals table common byWidth
 exact-table true = tt
 exact-table false = tt
 

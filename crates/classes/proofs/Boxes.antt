@@ -6,13 +6,14 @@ use mathlib.Core.Bool.{Bool, true, false, not, cond, _&&_}
 use mathlib.Core.List.{List, [], _∷_, _++_}
 use mathlib.Core.Option.{none, some}
 use lib.Dec.{T, eqb, leb}
-use Rattle.word.specs.Word.{Field, op, rs, rt, rd, sa, fn, Fields, Fit}
+use Rattle.word.specs.Word.{Field, sameField, op, rs, rt, rd, sa, fn, Fields, Fit}
 use Rattle.classes.specs.Row.{Pat, is, read, readBut, skip, skipBut, low, Row, patOf}
 use Rattle.classes.specs.Meaning.{match, six, nopLike, takes}
 use Rattle.classes.specs.Refusals.{Test, _∈_, _∉_, elem, holds, Refusal, meets}
 use Rattle.classes.specs.Theorems.{taking}
-use Rattle.classes.proofs.Tests.{and-true, sameField}
-use Rattle.classes.proofs.Cover.{Guard, passes, Box, within, ones, order, count, walked, count-append, count-none, count-box, meet, within-meet, six-same}
+use Rattle.classes.proofs.Tests.{and-true}
+use Rattle.classes.proofs.Walk.{Guard, passes}
+use Rattle.classes.proofs.Cover.{Box, within, ones, count, walked-ones, count-append, count-none, count-box, meet, within-meet, six-same}
 
 -- ── rows ──
 
@@ -79,17 +80,17 @@ four true true true false d = refl
 four true true true true true = refl
 four true true true true false = refl
 
-count-more : (b : Box) (bs : List Box) (f : Fields) → count order (b ∷ bs) f ≡ bit (within b f) + count order bs f
-count-more b bs f = count-append order (b ∷ []) bs f ∙ ap (λ (n : ℕ). n + count order bs f) (count-box b f)
+count-more : (b : Box) (bs : List Box) (f : Fields) → count (b ∷ bs) f ≡ bit (within b f) + count bs f
+count-more b bs f = count-append (b ∷ []) bs f ∙ ap (λ (n : ℕ). n + count bs f) (count-box b f)
 
 -- a box that meets another one, if what that asks is known
-count-meet : (b q : Box) (bs : List Box) (f : Fields) (m t : Bool) (n : ℕ) → within b f ≡ m → within q f ≡ t → count order bs f ≡ n →
-    count order (meet b q ∷ bs) f ≡ bit (m && t) + n
+count-meet : (b q : Box) (bs : List Box) (f : Fields) (m t : Bool) (n : ℕ) → within b f ≡ m → within q f ≡ t → count bs f ≡ n →
+    count (meet b q ∷ bs) f ≡ bit (m && t) + n
 count-meet b q bs f m t n e d c =
     count-more (meet b q) bs f ∙ ap₂ (λ (s : Bool) (k : ℕ). bit s + k) (within-meet b q f ∙ ap₂ _&&_ e d) c
 
 -- the four boxes of a row that leaves two words out
-count-four : (x : Box) (f : Fields) (m : Bool) → within x f ≡ m → count order (boxesBy true x) f ≡ bit (m && not (nopLike f))
+count-four : (x : Box) (f : Fields) (m : Bool) → within x f ≡ m → count (boxesBy true x) f ≡ bit (m && not (nopLike f))
 unfolding boxesBy nopLike six
 count-four x f m e =
     let a : Bool = eqb (f rs) 0 in
@@ -100,21 +101,21 @@ count-four x f m e =
     (count-meet x (limits nought some-bit none none) _ f m (a && not b) _ e (ap (λ (t : Bool). a && t) (and-true (not b)))
     (count-meet x (limits nought nought some-bit none) _ f m (a && (b && not c)) _ e (ap (λ (t : Bool). a && (b && t)) (and-true (not c)))
     (count-meet x (limits nought nought nought (some (λ v. not (leb v 1)))) [] f m (a && (b && (c && not d))) 0 e (ap (λ (t : Bool). a && (b && (c && t))) (and-true (not d)))
-    (count-none order f))))
+    (count-none f))))
     ∙ four m a b c d
 
-count-row : (r : Row) (f : Fields) → count order (boxesBy (r .nops) (rowBox r)) f ≡ bit (takes r f)
+pub count-row : (r : Row) (f : Fields) → count (boxesBy (r .nops) (rowBox r)) f ≡ bit (takes r f)
 unfolding takes boxesBy
 count-row r f = go (r .nops)
   where
-    go : (n : Bool) → count order (boxesBy n (rowBox r)) f ≡ bit (six (λ x. match (patOf r x) (f x)) && not (n && nopLike f))
+    go : (n : Bool) → count (boxesBy n (rowBox r)) f ≡ bit (six (λ x. match (patOf r x) (f x)) && not (n && nopLike f))
     go false = count-box (rowBox r) f ∙ ap bit (within-row r f ∙ sym (and-true (six (λ x. match (patOf r x) (f x)))))
     go true = count-four (rowBox r) f (six (λ x. match (patOf r x) (f x))) (within-row r f)
 
-pub count-rows : (ts : List Row) (f : Fields) → count order (boxes ts) f ≡ taking ts f
+pub count-rows : (ts : List Row) (f : Fields) → count (boxes ts) f ≡ taking ts f
 unfolding boxes taking
-count-rows [] f = count-none order f
-count-rows (r ∷ ts) f = count-append order (boxesBy (r .nops) (rowBox r)) (boxes ts) f ∙ ap₂ _+_ (count-row r f) (count-rows ts f)
+count-rows [] f = count-none f
+count-rows (r ∷ ts) f = count-append (boxesBy (r .nops) (rowBox r)) (boxes ts) f ∙ ap₂ _+_ (count-row r f) (count-rows ts f)
 
 -- ── refusals ──
 
@@ -141,7 +142,7 @@ unfoldable pub testsBox : List Test → Box
 testsBox [] x = none
 testsBox (t ∷ ts) x = meet (testBox t) (testsBox ts) x
 
-within-tests : (ts : List Test) (f : Fields) → within (testsBox ts) f ≡ meets ts f
+pub within-tests : (ts : List Test) (f : Fields) → within (testsBox ts) f ≡ meets ts f
 unfolding testsBox meets six
 within-tests [] f = refl
 within-tests (t ∷ ts) f = within-meet (testBox t) (testsBox ts) f ∙ ap₂ _&&_ (within-test t f) (within-tests ts f)
@@ -155,20 +156,20 @@ unfoldable pub refusing : List Refusal → Fields → ℕ
 refusing [] f = 0
 refusing (e ∷ es) f = bit (meets (e .tests) f) + refusing es f
 
-count-refusals : (es : List Refusal) (f : Fields) → count order (refusedBoxes es) f ≡ refusing es f
+count-refusals : (es : List Refusal) (f : Fields) → count (refusedBoxes es) f ≡ refusing es f
 unfolding refusedBoxes refusing
-count-refusals [] f = count-none order f
+count-refusals [] f = count-none f
 count-refusals (e ∷ es) f = count-more (testsBox (e .tests)) (refusedBoxes es) f ∙ ap₂ (λ (t : Bool) (n : ℕ). bit t + n) (within-tests (e .tests) f) (count-refusals es f)
 
 -- ── the law ──
 
 -- THE TEST, for any table and any acceptance table: each word is in one box of the two
 unfoldable pub exact : List Row → List Refusal → Bool
-exact ts es = ones order (boxes ts ++ refusedBoxes es)
+exact ts es = ones (boxes ts ++ refusedBoxes es)
 
 -- then each word is taken by one row or refused by one entry, and not both
 pub taken-or-refused : (ts : List Row) (es : List Refusal) → T (exact ts es) → (f : Fields) → Fit f → taking ts f + refusing es f ≡ 1
 unfolding exact
 taken-or-refused ts es t f h =
-    sym (count-append order (boxes ts) (refusedBoxes es) f ∙ ap₂ _+_ (count-rows ts f) (count-refusals es f))
-    ∙ walked order (boxes ts ++ refusedBoxes es) f h t
+    sym (count-append (boxes ts) (refusedBoxes es) f ∙ ap₂ _+_ (count-rows ts f) (count-refusals es f))
+    ∙ walked-ones (boxes ts ++ refusedBoxes es) f h t

@@ -1,4 +1,5 @@
 pub mod Tests
+pub mod Walk
 pub mod Cover
 pub mod Boxes
 pub mod Accepts

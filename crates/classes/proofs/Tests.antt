@@ -6,7 +6,7 @@ use mathlib.Core.Bool.{Bool, true, false, _&&_, _||_, Bool·beq}
 use native.Mathlib.Omega.{arith}
 use lib.Dec.{T, eqb}
 use borrow.Author.Tests.{eqb-true, eqb-false}
-use Rattle.word.specs.Word.{Field, Field-discrete, op, rs, rt, rd, sa, fn}
+use Rattle.word.specs.Word.{Field, sameField, op, rs, rt, rd, sa, fn}
 use Rattle.classes.specs.Meaning.{six}
 
 pub and-l : (a b : Bool) → T (a && b) → T a
@@ -33,7 +33,7 @@ beq-same false true t = absurd t
 beq-same false false t = refl
 
 -- two conjunctions, pair by pair
-zip : (a b c d : Bool) → (a && b) && (c && d) ≡ (a && c) && (b && d)
+pub zip : (a b c d : Bool) → (a && b) && (c && d) ≡ (a && c) && (b && d)
 zip false b c d = refl
 zip true false false d = refl
 zip true false true d = refl
@@ -61,10 +61,6 @@ six-at p t rt = and-l (p rt) _ (and-r (p rs) _ (and-r (p op) _ t))
 six-at p t rd = and-l (p rd) _ (and-r (p rt) _ (and-r (p rs) _ (and-r (p op) _ t)))
 six-at p t sa = and-l (p sa) _ (and-r (p rd) _ (and-r (p rt) _ (and-r (p rs) _ (and-r (p op) _ t))))
 six-at p t fn = and-r (p sa) (p fn) (and-r (p rd) _ (and-r (p rt) _ (and-r (p rs) _ (and-r (p op) _ t))))
-
--- are two fields one?
-abbrev pub sameField : Field → Field → Bool
-sameField x y = elim (Field-discrete x y) [ yes e ↦ true | no n ↦ false ]
 
 pub self : (x : Field) → T (sameField x x)
 self op = tt

@@ -7,7 +7,7 @@ use mathlib.Core.Bool.{Bool, true, false, cond, _||_, Bool·beq}
 use mathlib.Core.List.{List, [], _∷_}
 use lib.Dec.{T, eqb}
 use lib.IntN.{pos}
-use Rattle.word.specs.Word.{Field, rs, rt, rd, sa, fn, Fields, fieldsOf}
+use Rattle.word.specs.Word.{Field, sameField, rs, rt, rd, sa, fn, Fields, fieldsOf}
 use Rattle.word.specs.Numbers.{imm, index, signed, branchTo, jumpTo, sizeOf}
 use Rattle.reading.specs.declared.Op.{Op}
 use Rattle.reading.specs.declared.Op.the-variants.{Reg, FReg, Imm, Mem, Addr, Cop0}
@@ -16,7 +16,7 @@ use Rattle.classes.specs.Meaning.{six, out, outs, reading, meaning}
 use Rattle.classes.specs.Table.{common, byWidth, table}
 use Rattle.classes.specs.Decoded.{acceptedAs}
 use Rattle.classes.specs.Theorems.{AgreeAt, Agree, Ignored}
-use Rattle.classes.proofs.Tests.{or-l, or-r, six-at, beq-same, sameField, self}
+use Rattle.classes.proofs.Tests.{or-l, or-r, six-at, beq-same, self}
 use Rattle.classes.proofs.Find.{every, every-found}
 use Rattle.classes.proofs.Accepts.{accepted}
 

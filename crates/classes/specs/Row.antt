@@ -7,8 +7,8 @@ use Rattle.word.specs.Word.{Field, op, rs, rt, rd, sa, fn}
 
 -- ── a field ──
 
--- why a class does not read a field: the manual has zeros there, or it has something there that the reading leaves out (a code, a
--- hint, a sel, a cc)
+-- why a class does not read a field: the manual has zeros there, or it has something there that the reading leaves out (a code, a sel,
+-- a cc)
 pub data Why : Type 0 where
   fixed dropped : Why
 
@@ -37,6 +37,7 @@ pub data Code : Type 0 where
   s16 u16 : Code  -- the immediate, signed and not
   mem : Code  -- the signed immediate, and base rs
   br jmp : Code  -- the target of a branch and of a jump
+  deriving Discrete as Code-discrete
 
 -- the operands of a class, in the order of the manual's Format line. Those of `ins` and `jalr` end in a way of their own
 pub data Form : Type 0 where
@@ -44,6 +45,7 @@ pub data Form : Type 0 where
   _▸_ : Code → Form → Form
   posSize : Form  -- sa, and the size of `ins`
   link : Form  -- rd and rs; rs alone for rd 31
+  deriving Discrete as Form-discrete
 
 infixr 40 _▸_
 -- ── control and effect ──

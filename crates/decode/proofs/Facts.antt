@@ -7,10 +7,10 @@ use mathlib.Core.List.{List, [], _∷_}
 use mathlib.Core.Option.{Option, none, some, Option·none-ne-some, Option·some-injective}
 use borrow.Author.Tests.{eqb-true, eq-eqb, ne-eqb}
 use lib.Dec.{T, eqb}
-use Rattle.word.specs.Word.{Field, Field-discrete, Fields, room, Fit}
+use Rattle.word.specs.Word.{Field, sameField, Field-discrete, Fields, room, Fit}
 use Rattle.classes.specs.Meaning.{nopLike}
 use Rattle.classes.specs.Refusals.{elem}
-use Rattle.classes.proofs.Tests.{sameField, allBelow, below}
+use Rattle.classes.proofs.Tests.{allBelow, below}
 use Rattle.decode.specs.Groups.{NoneOf}
 
 -- ── facts ──

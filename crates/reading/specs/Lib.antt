@@ -1,3 +1,4 @@
 pub mod Kind
+pub mod Names
 pub mod Reading
 pub mod Numbers

@@ -1,6 +1,7 @@
 -- A word and its six fields. Bits are numbered as the manual draws them, 31 on the left and 0 on the right.
 -- Assumes nothing.
 use Prim.Native.Nat.{ℕ, _+_, _*_, _-_, _/_, _%_, _^_, _<_}
+use mathlib.Core.Bool.{Bool, true, false}
 
 -- bits hi..lo of a word, as a number
 abbrev pub bits : ℕ → ℕ → ℕ → ℕ
@@ -9,6 +10,10 @@ bits hi lo w = w / 2 ^ lo % 2 ^ (hi + 1 - lo)
 pub data Field : Type 0 where
   op rs rt rd sa fn : Field
   deriving Discrete as Field-discrete
+
+-- are two fields one?
+abbrev pub sameField : Field → Field → Bool
+sameField x y = elim (Field-discrete x y) [ yes e ↦ true | no d ↦ false ]
 
 -- a value for each field
 abbrev pub Fields : Type 0
