@@ -1,0 +1,10 @@
+pub mod Axes
+pub mod Slots
+pub mod Verdict
+pub mod Lines
+pub mod Left
+pub mod Computed
+pub mod Tables
+pub mod Proved
+pub mod Shown
+pub mod Reasons

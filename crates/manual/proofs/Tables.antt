@@ -1,0 +1,40 @@
+-- The tables pass the test of the walk.
+-- Assumes nothing.
+use mathlib.Core.Bool.{Bool, true, false}
+use lib.Dec.{T}
+use Rattle.reading.specs.Kind.{from}
+use Rattle.reading.specs.Names.{mnemonics, nameOf}
+use Rattle.classes.specs.Meaning.{match, six}
+use Rattle.classes.specs.Table.{common, byWidth, table}
+use Rattle.classes.specs.Refusals.{elem, refusals}
+use Rattle.classes.proofs.Walk.{spread, walk, sift, freeIn, markIn}
+use Rattle.classes.proofs.Boxes.{guardOf, boxesBy, testBox, testsBox}
+use Rattle.manual.specs.Page.{fit, names, named, oneAbove, implied, tied, told, whole}
+use Rattle.manual.specs.Pages.{pages}
+use Rattle.manual.specs.Aliases.{aliases, aliasLines, linesOf}
+use Rattle.manual.specs.Exceptions.{flagged, refusedWords, otherReadings, reservedWords, differences}
+use Rattle.manual.specs.Agreement.{book}
+use Rattle.manual.proofs.Axes.{askClaim, askClaims, askColumn}
+use Rattle.manual.proofs.Slots.{fullIn, partlyIn, spots, sameFields, slotOf, formSlots, lineSlots, sameSlots, sameOperands}
+use Rattle.manual.proofs.Verdict.{matches, argSort, codeSort, formSorts, sameNumbers, clashes, sorted, readAs, refusedAs, each, verdict}
+use Rattle.manual.proofs.Verdict.{together}
+use Rattle.manual.proofs.Left.{tag, boxed, partsIn, partsOf}
+use Rattle.manual.proofs.Computed.{keep, free, mark, good, sound}
+
+-- the test of the tables under a flag, with all that it computes with
+unfoldable pub tested : Bool → Bool
+unfolding sound walk spread sift freeIn markIn keep free mark good from mnemonics nameOf match six common byWidth table elem refusals guardOf boxesBy testBox testsBox fit names named oneAbove implied tied told whole pages aliases aliasLines linesOf flagged refusedWords otherReadings reservedWords differences book askClaim askClaims askColumn fullIn partlyIn spots sameFields slotOf formSlots lineSlots sameSlots sameOperands matches argSort codeSort formSorts sameNumbers clashes sorted readAs refusedAs each verdict together tag boxed partsIn partsOf
+tested wide = sound (table wide) refusals (linesOf (book pages wide)) (partsOf differences wide)
+
+-- each by itself, for the limit of one declaration
+tested-wide : T (tested true)
+unfolding tested
+tested-wide = tt
+
+tested-narrow : T (tested false)
+unfolding tested
+tested-narrow = tt
+
+pub tested-table : (wide : Bool) → T (tested wide)
+tested-table true = tested-wide
+tested-table false = tested-narrow

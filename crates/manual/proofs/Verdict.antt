@@ -1,0 +1,355 @@
+-- What the walk tests at its end: the line of the manual, the row, the number of a refusal and the exceptions that are left for a word.
+-- And what a passed test says of the word.
+-- Assumes nothing.
+use Prim.Native.Nat.{ℕ, zero, suc}
+use Prim.Native.String.{String}
+use mathlib.Core.Path.{_≡_, refl, sym, _∙_, ap, ap₂, subst}
+use mathlib.Core.Bool.{Bool, true, false, not, cond, _&&_, _||_}
+use mathlib.Core.List.{List, [], _∷_, map}
+use mathlib.Core.Option.{Option, none, some, Option·none-ne-some, Option·some-injective}
+use mathlib.Core.Logic.{inl, inr}
+use lib.Dec.{T, eqb, eqb→eq}
+use lib.Text.{eqt, eqt→eq, eqt-refl}
+use borrow.Author.Tests.{eq-eqb}
+use Rattle.word.specs.Word.{Field-discrete, Fields, rs, rd}
+use Rattle.reading.specs.declared.Op.{Op}
+use Rattle.reading.specs.declared.Op.the-variants.{Reg, FReg, Imm, Mem, Addr, Cop0}
+use Rattle.reading.specs.Names.{nameOf}
+use Rattle.classes.specs.Row.{Code, Code-discrete, reg, freg, cop0, num, size, s16, u16, mem, br, jmp, Form, Form-discrete, end, _▸_, posSize, link}
+use Rattle.classes.specs.Row.{Control, Change, Row}
+use Rattle.classes.specs.Meaning.{out, outs, targetIn, reading, meaning}
+use Rattle.classes.specs.Refusals.{elem, meets}
+use Rattle.classes.specs.Decoded.{acceptedAs}
+use Rattle.classes.proofs.Tests.{and-l, and-r}
+use Rattle.manual.specs.Page.{Arg, gpr, fpr, fcr, hwr, cp0, cp2, unsigned, signed16, plus, span, offset-base, index-base, pc-relative}
+use Rattle.manual.specs.Page.{in-region}
+use Rattle.manual.specs.Page.{Name, Meant, GPR, FPR, FCR, HWR, CP0, CP2, number, memory, indexed, address, meantBy, value, Rules, Line, meant}
+use Rattle.manual.specs.Page.{whole}
+use Rattle.manual.specs.Exceptions.{Sort, Answer, refused, reads, Difference}
+use Rattle.manual.specs.Agreement.{used, shows, targetAmong, Reads, OneOf, Answered}
+use Rattle.manual.proofs.Slots.{sameOperands, operands-meant}
+
+-- ── the operands in use ──
+
+unfoldable pub shorter : ℕ → List Op → Bool
+shorter n [] = true
+shorter zero (o ∷ os) = false
+shorter (suc n) (o ∷ os) = shorter n os
+
+unfoldable pub atMost : ℕ → Form → Bool
+atMost n end = true
+atMost zero (c ▸ φ) = false
+atMost (suc n) (c ▸ φ) = atMost n φ
+atMost zero posSize = false
+atMost (suc zero) posSize = false
+atMost (suc (suc n)) posSize = true
+atMost zero link = false
+atMost (suc zero) link = false
+atMost (suc (suc n)) link = true
+
+-- a row has at most four operands
+abbrev pub fits : Row → Bool
+fits r = atMost 4 (r .form)
+
+outs-shorter : (n : ℕ) (φ : Form) (va : ℕ) (f : Fields) → T (atMost n φ) → T (shorter n (outs φ va f))
+unfolding shorter atMost outs
+outs-shorter n end va f t = tt
+outs-shorter zero (c ▸ φ) va f t = absurd t
+outs-shorter (suc n) (c ▸ φ) va f t = outs-shorter n φ va f t
+outs-shorter zero posSize va f t = absurd t
+outs-shorter (suc zero) posSize va f t = absurd t
+outs-shorter (suc (suc n)) posSize va f t = tt
+outs-shorter zero link va f t = absurd t
+outs-shorter (suc zero) link va f t = absurd t
+outs-shorter (suc (suc n)) link va f t = go (eqb (f rd) 31)
+  where
+    go : (b : Bool) → T (shorter (suc (suc n)) (cond b (Reg (f rs) ∷ []) (Reg (f rd) ∷ Reg (f rs) ∷ [])))
+    go true = tt
+    go false = tt
+
+used-reading : (k : ℕ) (c : Control) (e : Change) (os : List Op) → T (shorter 4 os) → used (reading k c e os) ≡ os
+unfolding shorter reading
+used-reading k c e [] t = refl
+used-reading k c e (o ∷ []) t = refl
+used-reading k c e (o ∷ p ∷ []) t = refl
+used-reading k c e (o ∷ p ∷ q ∷ []) t = refl
+used-reading k c e (o ∷ p ∷ q ∷ r ∷ []) t = refl
+used-reading k c e (o ∷ p ∷ q ∷ r ∷ s ∷ os) t = absurd t
+
+pub used-meaning : (r : Row) (va : ℕ) (f : Fields) → T (fits r) → used (meaning r va f) ≡ outs (r .form) va f
+unfolding meaning
+used-meaning r va f t = used-reading (r .kind) (r .control) (r .change) (outs (r .form) va f) (outs-shorter 4 (r .form) va f t)
+
+target-among : (os : List Op) → targetIn os ≡ targetAmong (map shows os)
+unfolding targetIn targetAmong
+target-among [] = refl
+target-among (Reg n ∷ os) = target-among os
+target-among (FReg n ∷ os) = target-among os
+target-among (Imm z ∷ os) = target-among os
+target-among (Mem z n ∷ os) = target-among os
+target-among (Addr a ∷ os) = refl
+target-among (Cop0 n ∷ os) = target-among os
+
+-- ── a line and a row that agree ──
+
+unfoldable pub matches : Line → Row → Bool
+matches ℓ r = eqt (nameOf (r .kind)) (ℓ .name) && (sameOperands (ℓ .page) (ℓ .when) (ℓ .args) (r .form) && whole ℓ)
+
+pub matches-reads : (ℓ : Line) (r : Row) → T (fits r) → T (matches ℓ r) → (va : ℕ) (f : Fields) → T (meets (ℓ .when) f) → Reads ℓ va f (meaning r va f)
+unfolding matches meaning reading meant
+matches-reads ℓ r s t va f w =
+    record {
+      name = eqt→eq (nameOf (r .kind)) (ℓ .name) (and-l (eqt (nameOf (r .kind)) (ℓ .name)) _ t);
+      operands = ap (map shows) (used-meaning r va f s) ∙ same;
+      target = target-among (outs (r .form) va f) ∙ ap targetAmong same;
+      whole = and-r (sameOperands (ℓ .page) (ℓ .when) (ℓ .args) (r .form)) (whole ℓ) (and-r (eqt (nameOf (r .kind)) (ℓ .name)) _ t);
+    }
+  where
+    same : map shows (outs (r .form) va f) ≡ map (λ a. meantBy a va (value (ℓ .page) f)) (ℓ .args)
+    same =
+        operands-meant (ℓ .page) (ℓ .when) (ℓ .args) (r .form)
+        (and-l (sameOperands (ℓ .page) (ℓ .when) (ℓ .args) (r .form)) (whole ℓ) (and-r (eqt (nameOf (r .kind)) (ℓ .name)) _ t))
+        va f w
+
+-- ── a line and a row that do not ──
+
+-- a number for each sort of operand
+abbrev sortOf : Meant → ℕ
+sortOf (GPR n) = 0
+sortOf (FPR n) = 1
+sortOf (FCR n) = 2
+sortOf (HWR n) = 3
+sortOf (CP0 n) = 4
+sortOf (CP2 n) = 5
+sortOf (number z) = 6
+sortOf (memory z n) = 7
+sortOf (indexed m n) = 8
+sortOf (address a) = 9
+
+unfoldable pub argSort : Arg → ℕ
+argSort (gpr n) = 0
+argSort (fpr n) = 1
+argSort (fcr n) = 2
+argSort (hwr n) = 3
+argSort (cp0 n) = 4
+argSort (cp2 n) = 5
+argSort (unsigned n) = 6
+argSort (signed16 n) = 6
+argSort (plus k n) = 6
+argSort (span k m l) = 6
+argSort offset-base = 7
+argSort index-base = 8
+argSort pc-relative = 9
+argSort in-region = 9
+
+unfoldable pub codeSort : Code → ℕ
+codeSort (reg x) = 0
+codeSort (freg x) = 1
+codeSort (cop0 x) = 4
+codeSort (num x) = 6
+codeSort size = 6
+codeSort s16 = 6
+codeSort u16 = 6
+codeSort mem = 7
+codeSort br = 9
+codeSort jmp = 9
+
+abbrev andSort : ℕ → Option (List ℕ) → Option (List ℕ)
+andSort n none = none
+andSort n (some l) = some (n ∷ l)
+
+-- none for `link`, whose number of operands is not fixed
+unfoldable pub formSorts : Form → Option (List ℕ)
+formSorts end = some []
+formSorts (c ▸ φ) = andSort (codeSort c) (formSorts φ)
+formSorts posSize = some (6 ∷ 6 ∷ [])
+formSorts link = none
+
+arg-sort : (a : Arg) (va : ℕ) (v : Name → ℕ) → sortOf (meantBy a va v) ≡ argSort a
+unfolding meantBy argSort
+arg-sort (gpr n) va v = refl
+arg-sort (fpr n) va v = refl
+arg-sort (fcr n) va v = refl
+arg-sort (hwr n) va v = refl
+arg-sort (cp0 n) va v = refl
+arg-sort (cp2 n) va v = refl
+arg-sort (unsigned n) va v = refl
+arg-sort (signed16 n) va v = refl
+arg-sort (plus k n) va v = refl
+arg-sort (span k m l) va v = refl
+arg-sort offset-base va v = refl
+arg-sort index-base va v = refl
+arg-sort pc-relative va v = refl
+arg-sort in-region va v = refl
+
+args-sorts : (xs : List Arg) (va : ℕ) (v : Name → ℕ) → map sortOf (map (λ a. meantBy a va v) xs) ≡ map argSort xs
+args-sorts [] va v = refl
+args-sorts (a ∷ xs) va v = ap₂ (λ (n : ℕ) (l : List ℕ). n ∷ l) (arg-sort a va v) (args-sorts xs va v)
+
+code-sort : (c : Code) (va : ℕ) (f : Fields) → sortOf (shows (out c va f)) ≡ codeSort c
+unfolding out codeSort
+code-sort (reg x) va f = refl
+code-sort (freg x) va f = refl
+code-sort (cop0 x) va f = refl
+code-sort (num x) va f = refl
+code-sort size va f = refl
+code-sort s16 va f = refl
+code-sort u16 va f = refl
+code-sort mem va f = refl
+code-sort br va f = refl
+code-sort jmp va f = refl
+
+form-sorts : (φ : Form) (l : List ℕ) → formSorts φ ≡ some l → (va : ℕ) (f : Fields) → map sortOf (map shows (outs φ va f)) ≡ l
+unfolding formSorts outs
+form-sorts end l e va f = Option·some-injective [] l e
+form-sorts (c ▸ φ) l e va f = go (formSorts φ) refl e (λ k d. form-sorts φ k d va f)
+  where
+    go : (o : Option (List ℕ)) → formSorts φ ≡ o → andSort (codeSort c) o ≡ some l →
+        ((k : List ℕ) → formSorts φ ≡ some k → map sortOf (map shows (outs φ va f)) ≡ k) →
+        sortOf (shows (out c va f)) ∷ map sortOf (map shows (outs φ va f)) ≡ l
+    go none d h rec = absurd (Option·none-ne-some l h)
+    go (some k) d h rec = ap₂ (λ (n : ℕ) (r : List ℕ). n ∷ r) (code-sort c va f) (rec k d) ∙ Option·some-injective (codeSort c ∷ k) l h
+form-sorts posSize l e va f = Option·some-injective (6 ∷ 6 ∷ []) l e
+form-sorts link l e va f = absurd (Option·none-ne-some l e)
+
+unfoldable pub sameNumbers : List ℕ → List ℕ → Bool
+sameNumbers [] [] = true
+sameNumbers [] (n ∷ l) = false
+sameNumbers (m ∷ k) [] = false
+sameNumbers (m ∷ k) (n ∷ l) = eqb m n && sameNumbers k l
+
+same-numbers : (k : List ℕ) → T (sameNumbers k k)
+unfolding sameNumbers
+same-numbers [] = tt
+same-numbers (m ∷ k) = subst (λ (b : Bool). T (b && sameNumbers k k)) (sym (eq-eqb m m refl)) (same-numbers k)
+
+pub numbers-same : (k l : List ℕ) → T (sameNumbers k l) → k ≡ l
+unfolding sameNumbers
+numbers-same [] [] t = refl
+numbers-same [] (n ∷ l) t = absurd t
+numbers-same (m ∷ k) [] t = absurd t
+numbers-same (m ∷ k) (n ∷ l) t =
+    ap₂ (λ (a : ℕ) (r : List ℕ). a ∷ r) (eqb→eq m n (and-l (eqb m n) (sameNumbers k l) t)) (numbers-same k l (and-r (eqb m n) (sameNumbers k l) t))
+
+abbrev otherSorts : List ℕ → Option (List ℕ) → Bool
+otherSorts k none = false
+otherSorts k (some l) = not (sameNumbers k l)
+
+-- another name, a field left out, or operands of other sorts or another number of them
+unfoldable pub clashes : Line → Row → Bool
+clashes ℓ r = not (eqt (nameOf (r .kind)) (ℓ .name)) || (not (whole ℓ) || otherSorts (map argSort (ℓ .args)) (formSorts (r .form)))
+
+or-split : (a b : Bool) → T (a || b) → (P : Type 0) → (T a → P) → (T b → P) → P
+or-split true b t P l r = l tt
+or-split false b t P l r = r t
+
+not-both : (b : Bool) → T (not b) → T b → ⊥
+not-both true s t = s
+not-both false s t = t
+
+pub clashes-reads : (ℓ : Line) (r : Row) → T (fits r) → T (clashes ℓ r) → (va : ℕ) (f : Fields) → ¬ Reads ℓ va f (meaning r va f)
+unfolding clashes meaning reading meant
+clashes-reads ℓ r s t va f reads-it =
+    or-split (not (eqt (nameOf (r .kind)) (ℓ .name))) (not (whole ℓ) || other) t ⊥ (λ n. not-both (eqt (nameOf (r .kind)) (ℓ .name)) n names)
+    (λ u. or-split (not (whole ℓ)) other u ⊥ (λ n. not-both (whole ℓ) n (reads-it .whole)) (λ o. sorts (formSorts (r .form)) refl o))
+  where
+    other : Bool
+    other = otherSorts (map argSort (ℓ .args)) (formSorts (r .form))
+
+    names : T (eqt (nameOf (r .kind)) (ℓ .name))
+    names = subst (λ (n : String). T (eqt (nameOf (r .kind)) n)) (reads-it .name) (eqt-refl (nameOf (r .kind)))
+
+    meant-sorts : map argSort (ℓ .args) ≡ map sortOf (map shows (outs (r .form) va f))
+    meant-sorts =
+        sym (args-sorts (ℓ .args) va (value (ℓ .page) f))
+        ∙ ap (map sortOf) (sym (reads-it .operands) ∙ ap (map shows) (used-meaning r va f s))
+
+    sorts : (o : Option (List ℕ)) → formSorts (r .form) ≡ o → T (otherSorts (map argSort (ℓ .args)) o) → ⊥
+    sorts none e n = n
+    sorts (some l) e n =
+        not-both (sameNumbers (map argSort (ℓ .args)) l) n
+        (subst (λ (k : List ℕ). T (sameNumbers (map argSort (ℓ .args)) k)) (meant-sorts ∙ form-sorts (r .form) l e va f) (same-numbers (map argSort (ℓ .args))))
+
+-- ── what an exception says of a row, and of a number ──
+
+abbrev sameForm : Form → Form → Bool
+sameForm φ ψ = elim (Form-discrete (Code-discrete Field-discrete) φ ψ) [ yes e ↦ true | no d ↦ false ]
+
+same-form : (φ ψ : Form) → T (sameForm φ ψ) → φ ≡ ψ
+same-form φ ψ h = go (Form-discrete (Code-discrete Field-discrete) φ ψ) h
+  where
+    go : (d : Dec (φ ≡ ψ)) → T (elim d [ yes e ↦ true | no k ↦ false ]) → φ ≡ ψ
+    go (yes e) w = e
+    go (no k) w = absurd w
+
+unfoldable pub sorted : Row → List Sort → Bool
+sorted r [] = false
+sorted r (s ∷ ss) = (elem (r .kind) (s .kinds) && sameForm (r .form) (s .form)) || sorted r ss
+
+unfoldable pub readAs : Row → Answer → Bool
+readAs r (refused n) = false
+readAs r (reads ss) = sorted r ss
+
+unfoldable pub refusedAs : ℕ → Answer → Bool
+refusedAs n (refused k) = eqb n k
+refusedAs n (reads ss) = false
+
+sorted-one : (r : Row) (va : ℕ) (f : Fields) → T (fits r) → (ss : List Sort) → T (sorted r ss) → OneOf ss va f (meaning r va f)
+unfolding sorted meaning reading
+sorted-one r va f h [] t = absurd t
+sorted-one r va f h (s ∷ ss) t = go (elem (r .kind) (s .kinds) && sameForm (r .form) (s .form)) refl t (sorted-one r va f h ss)
+  where
+    here : T (elem (r .kind) (s .kinds) && sameForm (r .form) (s .form)) → T (elem (r .kind) (s .kinds)) × (used (meaning r va f) ≡ outs (s .form) va f)
+    here u = (
+      and-l (elem (r .kind) (s .kinds)) _ u,
+      used-meaning r va f h ∙ ap (λ (φ : Form). outs φ va f) (same-form (r .form) (s .form) (and-r (elem (r .kind) (s .kinds)) _ u)),
+    )
+
+    go : (b : Bool) → (elem (r .kind) (s .kinds) && sameForm (r .form) (s .form)) ≡ b → T (b || sorted r ss) → (T (sorted r ss) → OneOf ss va f (meaning r va f)) →
+        OneOf (s ∷ ss) va f (meaning r va f)
+    go true e u rec = inl (here (subst T (sym e) tt))
+    go false e u rec = inr (rec u)
+
+pub read-answered : (r : Row) (a : Answer) → T (fits r) → T (readAs r a) → (va : ℕ) (f : Fields) → Answered a va f (acceptedAs (meaning r va f))
+unfolding readAs
+read-answered r (refused n) h t va f = absurd t
+read-answered r (reads ss) h t va f = (refl, sorted-one r va f h ss t)
+
+pub refused-answered : (n : ℕ) (a : Answer) → T (refusedAs n a) → (P : Answer → Type 0) → ((k : ℕ) → n ≡ k → P (refused k)) → P a
+unfolding refusedAs
+refused-answered n (refused k) t P h = h k (eqb→eq n k t)
+refused-answered n (reads ss) t P h = absurd t
+
+-- ── the verdict ──
+
+-- an exception, and one set of words that it covers
+abbrev pub Part : Type 0
+Part = Difference × Rules
+
+unfoldable pub each : (Difference → Bool) → List Part → Bool
+each q [] = true
+each q (p ∷ ps) = q (p .0) && each q ps
+
+abbrev pub readBy : Row → Difference → Bool
+readBy r d = readAs r (d .answer)
+
+abbrev pub refusedBy : ℕ → Difference → Bool
+refusedBy n d = refusedAs n (d .answer)
+
+unfoldable pub verdict : Option Line → Option Row → ℕ → List Part → Bool
+verdict none none n [] = true
+verdict none none n (p ∷ ps) = false
+verdict none (some r) n [] = false
+verdict none (some r) n (p ∷ ps) = each (readBy r) (p ∷ ps)
+verdict (some ℓ) none n [] = false
+verdict (some ℓ) none n (p ∷ ps) = each (refusedBy n) (p ∷ ps)
+verdict (some ℓ) (some r) n [] = matches ℓ r
+verdict (some ℓ) (some r) n (p ∷ ps) = clashes ℓ r && each (readBy r) (p ∷ ps)
+
+-- they are sets of words of one exception, which its example tells from others
+abbrev pub shownBy : ℕ → Difference → Bool
+shownBy k d = eqb (d .example .word) k
+
+unfoldable pub together : List Part → Bool
+together [] = true
+together (p ∷ ps) = each (shownBy (p .0 .example .word)) (p ∷ ps)

@@ -1,0 +1,47 @@
+-- Why a class does not read a field, as the table of classes says it, held against the pages: `zeros` where the page has zeros, `extra`
+-- where it has a field. The proof stands in proofs/Reasons.antt.
+-- Assumes nothing.
+use Prim.Native.String.{String}
+use mathlib.Core.Bool.{Bool, true, false, _&&_}
+use mathlib.Core.List.{List, [], _∷_}
+use lib.Dec.{T, eqb}
+use lib.Text.{eqt}
+use Rattle.reading.specs.Names.{nameOf}
+use Rattle.classes.specs.Row.{Why, fixed, dropped, Pat, is, read, readBut, skip, skipBut, low, Row, patOf}
+use Rattle.classes.specs.Meaning.{six}
+use Rattle.classes.specs.Table.{table}
+use Rattle.manual.specs.Page as page
+use Rattle.manual.specs.Page.{Column, columnOf, Line}
+use Rattle.manual.specs.Pages.{pages}
+use Rattle.manual.specs.Aliases.{linesOf}
+
+unfoldable pub stated : Why → Column → Bool
+stated fixed (page.is v) = eqb v 0
+stated fixed (page.box n) = false
+stated fixed (page.over n k v) = false
+stated fixed (page.under v k n) = false
+stated dropped (page.is v) = false
+stated dropped (page.box n) = true
+stated dropped (page.over n k v) = true
+stated dropped (page.under v k n) = true
+
+unfoldable pub reason : Pat → Column → Bool
+reason (is v) c = true
+reason read c = true
+reason (readBut v) c = true
+reason (skip y) c = stated y c
+reason (skipBut v) c = true
+reason (low v) c = true
+
+-- at each line that has the row's mnemonic, its own or as an alias
+unfoldable pub reasons : String → List Line → Row → Bool
+reasons m [] r = true
+reasons m (ℓ ∷ ls) r =
+    elim (eqt m (ℓ .name)) [ true ↦ six (λ x. reason (patOf r x) (columnOf (ℓ .page) x)) && reasons m ls r | false ↦ reasons m ls r ]
+
+unfoldable pub allReasons : List Line → List Row → Bool
+allReasons ls [] = true
+allReasons ls (r ∷ ts) = reasons (nameOf (r .kind)) ls r && allReasons ls ts
+
+abbrev pub Reasons : Type 0
+Reasons = (wide : Bool) → T (allReasons (linesOf pages) (table wide))

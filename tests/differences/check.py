@@ -1,0 +1,526 @@
+#!/usr/bin/env python3
+"""Hold the named differences between the manuals and the Rust, as they stand in crates/manual/specs, against docs/DIFFERENCES.md
+and against the Rust: the example of each, and words drawn at random from those that it covers.
+
+    check.py REPOSITORY ORACLE
+
+ORACLE is the driver of tests/oracle. The specs are read with their own abbreviations and relations; what a list, a test, a claim
+and a page's drawing mean is written here a second time.
+"""
+import collections
+import functools
+import itertools
+import operator
+import random
+import re
+import subprocess
+import sys
+
+FIELDS = ("op", "rs", "rt", "rd", "sa", "fn")
+SHIFTS = {"op": 26, "rs": 21, "rt": 16, "rd": 11, "sa": 6, "fn": 0}
+ROOM = {"op": 64, "rs": 32, "rt": 32, "rd": 32, "sa": 32, "fn": 64}
+
+# The width flags under which words count, and pages.
+FLAGS = {"either": (False, True), "on": (True,), "off": (False,)}
+BOOKS = {"MIPS32": (False, True), "MIPS64": (True,)}
+
+# An entry that is lost from the specs and from the document at once would else go unnoticed.
+ENTRIES = 75
+# The lists of the specs, in the order of the document's tables; no page defines the words of the last.
+LISTS = ("refusedWords", "otherReadings", "reservedWords")
+# The entry whose mnemonics have neither a page nor an alias.
+WITHOUT_PAGE = "reserved-format"
+
+# For each entry and flag, so many words, if as many come up in so many draws: a small entry is drawn to its last word.
+WORDS_EACH = 400
+DRAWS = 4000
+SEED = 75
+# A field that may have at most so many values is tried with each of them, in corners.
+FEW = 16
+
+
+def text_of(repository, path):
+    with open(f"{repository}/{path}", encoding="utf-8") as file:
+        return file.read()
+
+
+def demand(holds, name, message):
+    if not holds:
+        sys.exit(f"{name}: {message}")
+
+
+def shown(word, wide):
+    return f"word 0x{word:08x}, flag {'on' if wide else 'off'}"
+
+
+# ── expressions of the specs, as trees ──
+
+TOKEN = re.compile(r'"[^"]*"|[(){};]|[^\s(){};"]+')
+LIST_SIGNS = ("∷", "++")
+INFIX = {
+    "∈": lambda field, values: ("∈", field, values),
+    "∉": lambda field, values: ("∉", field, values),
+    "to": lambda first, last: list(range(first, last + 1)),
+    "+": operator.add,
+}
+END = ""
+STOPS = {")", "}", ";", END, *LIST_SIGNS, *INFIX}
+
+
+class Parser:
+    """Takes an expression apart, from the signs that bind least, those of lists, down to names and numbers."""
+
+    def __init__(self, text):
+        self.tokens = TOKEN.findall(text)[::-1]
+
+    def next(self):
+        return self.tokens[-1] if self.tokens else END
+
+    def take(self, wanted=None):
+        token = self.tokens.pop() if self.tokens else END
+        demand(wanted in (None, token), "specs", f"`{token}` stands where `{wanted}` should")
+        return token
+
+    def expression(self):
+        items, signs = [self.infix()], []
+        while self.next() in LIST_SIGNS:
+            signs.append(self.take())
+            items.append(self.infix())
+        return ("list", items, signs) if signs else items[0]
+
+    def infix(self):
+        left = self.application()
+        return (self.take(), left, self.application()) if self.next() in INFIX else left
+
+    def application(self):
+        head, arguments = self.atom(), []
+        while self.next() not in STOPS:
+            arguments.append(self.atom())
+        return ("apply", head, arguments) if arguments else head
+
+    def atom(self):
+        token = self.take()
+        if token == "(":
+            inner = self.expression()
+            self.take(")")
+            return inner
+        if token == "record":
+            return ("record", self.members())
+        if token == "[]":
+            return ("value", [])
+        if token.startswith('"'):
+            return ("value", token.strip('"'))
+        return ("value", int(token, 0)) if token[:1].isdigit() else ("name", token)
+
+    def members(self):
+        """What stands in a record: `{ name = expression; ... }`."""
+        found, before = {}, "{"
+        while self.next() == before:
+            self.take()
+            name = self.take()
+            self.take("=")
+            found[name] = self.expression()
+            before = ";"
+        self.take("}")
+        return found
+
+
+@functools.lru_cache(maxsize=None)
+def parsed(text):
+    parser = Parser(text)
+    tree = parser.expression()
+    parser.take(END)
+    return tree
+
+
+# ── their values ──
+
+# A body is kept as text: most definitions are never asked for, and not all of them are expressions of this kind.
+Definition = collections.namedtuple("Definition", "parameters body scope")
+DEFINITION = re.compile(r"^(abbrev|unfoldable)(?: pub)? (\S+) : (.*)\n\2((?: \S+)*?) =\s+(.*(?:\n(?:[ \t].*)?)*)", re.M)
+USE = re.compile(r"^use Rattle·(\w+)(?:·specs)?\.specs\.(\w+)\.\{(.*)\}$", re.M)
+
+
+@functools.lru_cache(maxsize=None)
+def scope_of(repository, path):
+    """The definitions that the expressions of a file can name: its own, and those that its `use` lines ask for."""
+    text = re.sub(r"(^|[ \t])--.*$", "", text_of(repository, f"crates/{path}"), flags=re.M)
+    scope = {}
+    for crate, file, names in USE.findall(text):
+        other = scope_of(repository, f"{crate}/specs/{file}.antt")
+        scope.update((name, other[name]) for name in names.split(", ") if name in other)
+    for head, name, kind, parameters, body in DEFINITION.findall(text):
+        by_clauses = head == "unfoldable" and "→" in kind
+        # Forms are left as names: operands are not compared here.
+        if not by_clauses and kind != "Form":
+            scope[name] = Definition(parameters.split(), body, scope)
+    return scope
+
+
+def evaluate(tree, scope, local):
+    """The value of a tree: numbers, texts, lists, records as dictionaries, and constructors."""
+    sign, *parts = tree
+    if sign == "value":
+        return parts[0]
+    if sign == "name":
+        return named(parts[0], [], scope, local)
+    if sign == "apply":
+        return named(parts[0][1], [evaluate(part, scope, local) for part in parts[1]], scope, local)
+    if sign == "record":
+        return {name: evaluate(part, scope, local) for name, part in parts[0].items()}
+    if sign == "list":
+        values = [evaluate(part, scope, local) for part in parts[0]]
+        # The last part is a list itself, as if `++` came after it.
+        joined = zip(values, parts[1] + ["++"])
+        return list(itertools.chain.from_iterable([value] if after == "∷" else value for value, after in joined))
+    return INFIX[sign](*(evaluate(part, scope, local) for part in parts))
+
+
+def named(name, arguments, scope, local):
+    """A name that has no definition is a constructor: it stands for itself, in front of its arguments."""
+    if name in local:
+        return local[name](*arguments) if arguments else local[name]
+    if name not in scope:
+        return (name, *arguments) if arguments else name
+    found = scope[name]
+    demand(len(found.parameters) == len(arguments), "specs", f"`{name}` has {len(arguments)} arguments")
+    return evaluate(parsed(found.body), found.scope, dict(zip(found.parameters, arguments)))
+
+
+def value_of(repository, path, name):
+    scope = scope_of(repository, path)
+    demand(name in scope, path, f"`{name}` is not defined")
+    return named(name, [], scope, {})
+
+
+# ── sets of words ──
+
+
+def fields_of(word):
+    return {x: word >> SHIFTS[x] & ROOM[x] - 1 for x in FIELDS}
+
+
+def word_of(fields):
+    return sum(fields[x] << SHIFTS[x] for x in FIELDS)
+
+
+class Relations:
+    """How two fields can stand to each other, as crates/manual/specs/Page.antt says it."""
+
+    def __init__(self, repository):
+        text = text_of(repository, "crates/manual/specs/Page.antt")
+        self.bodies = dict(re.findall(r"^related (\S+) f = (.*)$", text, re.M))
+
+    def fields(self, name):
+        return {x for x in FIELDS if re.search(rf"\bf {x}\b", self.bodies[name])}
+
+    def holds(self, name, fields):
+        return evaluate(parsed(self.bodies[name]), {}, {"f": fields.get, "eqb": operator.eq, "leb": operator.le})
+
+
+class Words:
+    """Words by the values that each field may have, and by those that the fields of the claims may have together."""
+
+    def __init__(self, flags, tests, claims, relations):
+        self.flags = flags
+        self.allowed = {x: range(ROOM[x]) for x in FIELDS}
+        for sign, x, values in tests:
+            self.allowed[x] = [v for v in self.allowed[x] if (v in values) == (sign == "∈")]
+        tied = set().union(*(relations.fields(relation) for _, relation in claims))
+        self.tied = [x for x in FIELDS if x in tied]
+        together = itertools.product(*(self.allowed[x] for x in self.tied))
+        self.together = [vs for vs in together if self.claimed(claims, relations, vs)]
+        self.empty = not self.together or not all(self.allowed.values())
+        # Membership is asked for often.
+        self.values = {x: frozenset(self.allowed[x]) for x in FIELDS}
+        self.tuples = frozenset(self.together)
+
+    def claimed(self, claims, relations, values):
+        fields = dict(zip(self.tied, values))
+        return all(relations.holds(relation, fields) == (claim == "holds") for claim, relation in claims)
+
+    def has(self, fields):
+        return all(fields[x] in self.values[x] for x in FIELDS) and tuple(fields[x] for x in self.tied) in self.tuples
+
+    def smallest(self):
+        """Fields stand in the order of their weight, so each may be taken alone, but for those of the claims."""
+        least = {x: min(self.allowed[x]) for x in FIELDS}
+        return min(word_of({**least, **dict(zip(self.tied, values))}) for values in self.together)
+
+    def draw(self, source):
+        fields = {x: source.choice(self.allowed[x]) for x in FIELDS}
+        fields.update(zip(self.tied, source.choice(self.together)))
+        return word_of(fields)
+
+    def corners(self):
+        """Words with first and last values, or all where they are few: chance could miss a function, or a register zero."""
+        ends = [vs if len(vs) <= FEW else (vs[0], vs[-1]) for vs in self.allowed.values()]
+        for values, tied in itertools.product(itertools.product(*ends), (self.together[0], self.together[-1])):
+            yield word_of({**dict(zip(FIELDS, values)), **dict(zip(self.tied, tied))})
+
+
+class Places:
+    """Sets of words under names, and which of them have a word. They are found by op and fn, since there are many questions."""
+
+    def __init__(self, named_sets):
+        self.places = collections.defaultdict(list)
+        for name, words in named_sets:
+            for place in itertools.product(words.allowed["op"], words.allowed["fn"]):
+                self.places[place].append((name, words))
+
+    def names(self, word, wide):
+        """In the order in which they were given, each once."""
+        fields = fields_of(word)
+        near = self.places[fields["op"], fields["fn"]]
+        return list(dict.fromkeys(name for name, words in near if wide in words.flags and words.has(fields)))
+
+
+# ── the entries ──
+
+
+def mnemonic(kind):
+    return kind.removeprefix("kind.").replace("-", ".")
+
+
+class Entry:
+    def __init__(self, title, difference, relations):
+        self.list = title
+        self.name = difference["exception"]
+        self.word = difference["example"]["word"]
+        self.wide = difference["example"]["wide"] == "true"
+        self.sets = []
+        for words in difference["words"]:
+            rules = words["rules"]
+            self.sets.append(Words(FLAGS[words["flag"]], rules["tests"], rules["claims"], relations))
+        self.demand(not any(words.empty for words in self.sets), "one of its sets has no words")
+        answer, content = difference["answer"]
+        self.refusal = f"refused {content}" if answer == "refused" else None
+        self.mnemonics = set() if self.refusal else {mnemonic(kind) for sort in content for kind in sort["kinds"]}
+
+    def demand(self, holds, message):
+        demand(holds, self.name, message)
+
+    def under(self, wide):
+        return [words for words in self.sets if wide in words.flags]
+
+    def fits(self, answer):
+        return answer == self.refusal if self.refusal else answer.split(" ")[0] in self.mnemonics
+
+    def said(self):
+        return self.refusal or "one of " + ", ".join(sorted(self.mnemonics))
+
+
+def entries_of(repository):
+    path = "manual/specs/Exceptions.antt"
+    relations = Relations(repository)
+    lists = {name: value_of(repository, path, name) for name in LISTS}
+    together = list(itertools.chain(*lists.values()))
+    demand(value_of(repository, path, "differences") == together, "differences", f"not the lists {', '.join(LISTS)}")
+    return [Entry(name, difference, relations) for name, differences in lists.items() for difference in differences]
+
+
+def check_constructors(repository, entries):
+    """Each constructor of `Exception` has one entry."""
+    text = text_of(repository, "crates/manual/specs/Exceptions.antt")
+    declared = re.search(r"^pub data Exception .*\n((?:[ \t]+.*\n)+)", text, re.M)[1]
+    constructors = collections.Counter(" ".join(re.findall(r"^[ \t]+([^-\s].*) : Exception$", declared, re.M)).split())
+    named_by = collections.Counter(entry.name for entry in entries)
+    for name in {**constructors, **named_by}:
+        demand(constructors[name] == 1, name, f"{constructors[name]} constructors of Exception")
+        demand(named_by[name] == 1, name, f"{named_by[name]} entries")
+    demand(len(constructors) == ENTRIES, "Exception", f"{len(constructors)} constructors, not {ENTRIES}")
+
+
+def check_smallest(entry):
+    covered = [words.smallest() for words in entry.under(entry.wide)]
+    entry.demand(covered, f"{shown(entry.word, entry.wide)} is its example, but it has no words under that flag")
+    entry.demand(min(covered) == entry.word, f"its example is 0x{entry.word:08x}, its smallest {shown(min(covered), entry.wide)}")
+
+
+# ── the document ──
+
+Row = collections.namedtuple("Row", "number name word flag manual rust we words")
+ROW = re.compile(r"\| D(\d+) \| `([\w-]+)` \| `0x([0-9a-f]{8})`(?:, flag (on|off))?" + r" \| ([^|]*)" * 4 + r" \|")
+
+
+def tables_of(repository):
+    """The rows of each table of differences."""
+    tables = []
+    for line in text_of(repository, "docs/DIFFERENCES.md").splitlines():
+        if line.startswith("#"):
+            tables.append([])
+        if line.startswith("| D"):
+            found = ROW.fullmatch(line)
+            demand(found, "docs/DIFFERENCES.md", f"a row that cannot be read: {line}")
+            tables[-1].append(Row(*found.groups()))
+    return [rows for rows in tables if rows]
+
+
+def check_tables(entries, tables):
+    demand(len(tables) == len(LISTS), "docs/DIFFERENCES.md", f"{len(tables)} tables of differences, not {len(LISTS)}")
+    for title, rows in zip(LISTS, tables):
+        names = [entry.name for entry in entries if entry.list == title]
+        for ours, theirs in itertools.zip_longest(names, (row.name for row in rows), fillvalue="nothing"):
+            demand(ours == theirs, title, f"{ours} stands where docs/DIFFERENCES.md has {theirs}")
+
+
+def check_row(number, entry, row, pages):
+    entry.demand(int(row.number) == number, f"D{row.number} in docs/DIFFERENCES.md, not D{number}")
+    example = shown(entry.word, entry.wide)
+    theirs = shown(int(row.word, 16), row.flag == "on")
+    entry.demand(theirs == example, f"{theirs} in docs/DIFFERENCES.md, not {example}")
+    entry.demand(row.we == entry.refusal or not entry.refusal, f"{example}: `we` has {row.we}, not {entry.refusal}")
+    # In the last list no page has the word, as check_answers finds.
+    if entry.list != LISTS[-1]:
+        page = re.sub(r"^`([\w.]+).*", r"\1", row.manual)
+        entry.demand(pages.names(entry.word, entry.wide)[:1] == [page], f"{example} is not on the page {page}")
+
+
+# ── the Rust ──
+
+
+def words_of(entry, wide, source):
+    """Words that the entry covers under the flag, each once: its corners, and others at random."""
+    sets = entry.under(wide)
+    found = {}
+    for _ in range(DRAWS if sets else 0):
+        found[source.choice(sets).draw(source)] = True
+        if len(found) == WORDS_EACH:
+            break
+    return list(dict.fromkeys([*found, *itertools.chain(*(words.corners() for words in sets))]))
+
+
+def answers_of(oracle, questions):
+    """The listing line, or `refused` with its number, for each word with its flag, at address 0."""
+    lines = "".join(f"{wide:d} 0 {word:08x}\n" for word, wide in questions)
+    run = subprocess.run([oracle, "text"], input=lines, stdout=subprocess.PIPE, text=True, check=True)
+    answers = [line.split(" ", 2) for line in run.stdout.splitlines()]
+    demand([int(word, 16) for _, word, _ in answers] == [word for word, _ in questions], "oracle", "answers other words")
+    return [answer for _, _, answer in answers]
+
+
+def objection(entry, word, wide, answer, covering, pages):
+    """What is wrong about a word of an entry, if anything: it is covered twice, has a page or none, or is answered otherwise."""
+    covered = covering.names(word, wide)
+    if covered != [entry.name]:
+        return f"covered by {', '.join(covered) or 'no entry'}"
+    # With the flag off MIPS32 has no page for some words of the middle list, which are there for their pages of MIPS64.
+    on = pages.names(word, wide or entry.list == LISTS[1])
+    if bool(on) != (entry.list != LISTS[-1]):
+        return f"on {'the page ' + on[0] if on else 'no page'}, but in {entry.list}"
+    return None if entry.fits(answer) else f"the Rust answers {answer}, the entry says {entry.said()}"
+
+
+def check_answers(oracle, entries, rows, covering, pages):
+    """How many words were compared beside the examples."""
+    source = random.Random(SEED)
+    asked = [(entry, entry.word, entry.wide) for entry in entries]
+    for entry, wide in itertools.product(entries, (False, True)):
+        asked += [(entry, word, wide) for word in words_of(entry, wide, source)]
+    answers = answers_of(oracle, [(word, wide) for _, word, wide in asked])
+    # The examples come first.
+    for row, (entry, word, wide), answer in zip(rows, asked, answers):
+        column = answer if answer.startswith("refused ") else f"`{answer}`"
+        entry.demand(row.rust == column, f"{shown(word, wide)}: the Rust answers {column}, docs/DIFFERENCES.md has {row.rust}")
+    for (entry, word, wide), answer in zip(asked, answers):
+        found = objection(entry, word, wide, answer, covering, pages)
+        if found:
+            sys.exit(f"{entry.name}: {shown(word, wide)}: {found}")
+    return len(asked) - len(entries)
+
+
+# ── pages, rows and names ──
+
+
+def column_test(field, column):
+    """What a column of a page's drawing asks of its field."""
+    sign, *parts = column
+    tests = {
+        "is": lambda v: lambda a: a == v,
+        "box": lambda name: lambda a: True,
+        "over": lambda name, k, v: lambda a: a % 2**k == v,
+        "under": lambda v, k, name: lambda a: a // 2**k == v,
+    }
+    return "∈", field, list(filter(tests[sign](*parts), range(ROOM[field])))
+
+
+def pages_of(repository):
+    """The name and the words of each page."""
+    relations = Relations(repository)
+    found = []
+    for page in value_of(repository, "manual/specs/Pages.antt", "pages"):
+        tests = [column_test(x, page["p" + x]) for x in FIELDS] + page["limit"]["tests"]
+        found.append((page["name"], Words(BOOKS[page["isa"]], tests, page["limit"]["claims"], relations)))
+    return found
+
+
+def rows_of(repository):
+    """The mnemonics that have a row in the table of classes."""
+    text = text_of(repository, "crates/classes/specs/Table.antt")
+    return {mnemonic(kind) for kind in re.findall(r"^ +row\w* (kind\.\S+) ", text, re.M)}
+
+
+def tells(row, page):
+    """Whether every part of the page's name is in the row; its `compares` stand for the names that begin with `c.`."""
+    words = set(re.findall(r"\w+", f"{row.manual} {row.words}"))
+    parts = page.split(".")
+    if parts[0] == "c" and "compares" in words:
+        parts = parts[2:]
+    return words.issuperset(parts)
+
+
+def check_pages(pages, rows, documented, covering):
+    """A page without a row is a difference of the first two tables, and named there."""
+    for page, words in pages:
+        if page in rows:
+            continue
+        word, wide = words.smallest(), words.flags[0]
+        found = covering.names(word, wide)
+        demand(found and found[0] in documented, page, f"a page without a row, {shown(word, wide)}, but no difference")
+        demand(tells(documented[found[0]], page), found[0], f"docs/DIFFERENCES.md does not name {page}, {shown(word, wide)}")
+
+
+def check_rows(repository, pages, rows, entries):
+    """A row has a page or is an alias, but for the reserved formats."""
+    aliases = {alias["alias"] for alias in value_of(repository, "manual/specs/Aliases.antt", "aliases")}
+    without = rows - aliases - {page for page, _ in pages}
+    said = set().union(*(entry.mnemonics for entry in entries if entry.name == WITHOUT_PAGE))
+    differ = ", ".join(sorted(without ^ said))
+    demand(not differ, WITHOUT_PAGE, f"its mnemonics are not those that have neither a page nor an alias: {differ}")
+
+
+def check_names(repository, entries):
+    """How many mnemonics there are, if the names stand in the order of the kinds."""
+    kinds = re.findall(r"^abbrev pub (\S+) : ℕ\n\1 = (\d+)$", text_of(repository, "crates/reading/specs/Kind.antt"), re.M)
+    expected = [mnemonic(name) for name, _ in kinds if name != "many"]
+    for place, (name, number) in enumerate(pair for pair in kinds if pair[0] != "many"):
+        demand(int(number) == place, name, f"kind {number}, not {place}")
+    names = value_of(repository, "reading/specs/Names.antt", "mnemonics")
+    for place, (ours, theirs) in enumerate(itertools.zip_longest(names, expected)):
+        demand(ours == theirs, "mnemonics", f"{ours} has the place of kind {place}, {theirs}")
+    for entry in entries:
+        unknown = entry.mnemonics - set(names)
+        demand(not unknown, entry.name, f"no mnemonic: {', '.join(sorted(unknown))}")
+    return len(names)
+
+
+def main():
+    repository, oracle = sys.argv[1:]
+    entries, pages, tables = entries_of(repository), pages_of(repository), tables_of(repository)
+    covering = Places((entry.name, words) for entry in entries for words in entry.sets)
+    drawings = Places(pages)
+    check_constructors(repository, entries)
+    check_tables(entries, tables)
+    documented = list(itertools.chain(*tables))
+    for number, (entry, row) in enumerate(zip(entries, documented), 1):
+        check_smallest(entry)
+        check_row(number, entry, row, drawings)
+    rows = rows_of(repository)
+    check_pages(pages, rows, {row.name: row for row in itertools.chain(*tables[:-1])}, covering)
+    check_rows(repository, pages, rows, entries)
+    names = check_names(repository, entries)
+    words = check_answers(oracle, entries, documented, covering, drawings)
+    print(f"{len(entries)} entries with their smallest words, {words} more words, {len(pages)} pages, {names} mnemonics")
+
+
+main()

@@ -1,0 +1,66 @@
+"""Read what the disassemblers print: for each word nothing, if the tool does not know it, or its mnemonic and its operands."""
+import functools
+import re
+
+from pages import WORD_BYTES
+
+# Operands are as `Page.operand` of pages.py gives them: ("$", 5), ("$f", 5), ("#", 12), ("mem", -4, 29), ("indexed", 3, 4);
+# what else stands there is ("text", as it is printed).
+
+# LLVM calls five general registers by name, objdump (as it is called here) none
+NAMED = {"zero": "0", "gp": "28", "sp": "29", "fp": "30", "ra": "31"}
+REGISTER = re.compile(r"(\$[a-z]*)(\d+)")
+MEMORY = re.compile(r"(-?\d+)\(\$(\d+)\)")
+INDEXED = re.compile(r"\$(\d+)\(\$(\d+)\)")
+NUMBER = re.compile(r"-?(0x[0-9a-f]+|\d+)")
+OBJDUMP_LINE = re.compile(r" *([0-9a-f]+):\t([0-9a-f]{8}) \t([^\t\n]+)\t?(.*)\n")
+OBJDUMP_UNKNOWN = ".word"
+LLVM_LINE = re.compile(r"\t(\S+)\s*(.*)\n")
+# llvm-mc wraps some words in lines that set its assembler's mode
+LLVM_DIRECTIVES = ("\t.text", "\t.set")
+LLVM_MESSAGE = re.compile(r"^[^:\n]+:(\d+):(\d+): (\w+): (.*)$", re.M)
+LLVM_UNKNOWN = ("1", "warning", "invalid instruction encoding")
+
+
+@functools.lru_cache(maxsize=None)
+def operand_of(text):
+    text = re.sub(r"\$(zero|gp|sp|fp|ra)\b", lambda found: "$" + NAMED[found[1]], text)
+    if found := REGISTER.fullmatch(text):
+        return found[1], int(found[2])
+    if found := MEMORY.fullmatch(text):
+        return "mem", int(found[1]), int(found[2])
+    if found := INDEXED.fullmatch(text):
+        return "indexed", int(found[1]), int(found[2])
+    if NUMBER.fullmatch(text):
+        return "#", int(text, 0)
+    return "text", text
+
+
+def operands_of(text):
+    return [operand_of(part.strip()) for part in text.split(",")] if text else []
+
+
+def read_objdump(path, words, base):
+    """(mnemonic, text of the operands) or None for each word; every line must have the word's address and the word."""
+    with open(path, encoding="ascii") as file:
+        found = [line for line in map(OBJDUMP_LINE.fullmatch, file) if line]
+    assert len(found) == len(words), f"{path}: {len(found)} lines for {len(words)} words"
+    answers = []
+    for index, (line, word) in enumerate(zip(found, words)):
+        found_at, found_word = int(line[1], 16), int(line[2], 16)
+        assert (found_at, found_word) == (base + WORD_BYTES * index, word), f"{path}: {line[0]!r} for {word:08x}"
+        answers.append(None if line[3] == OBJDUMP_UNKNOWN else (line[3], line[4]))
+    return answers
+
+
+def read_llvm(printed, messages, words):
+    """The same from llvm-mc: it prints a line for each word that it knows, and names the others by line in its warnings."""
+    with open(messages, encoding="ascii") as file:
+        said = LLVM_MESSAGE.findall(file.read())
+    unknown = {int(line) for line, *rest in said if tuple(rest) == LLVM_UNKNOWN}
+    assert len(unknown) == len(said), f"{messages}: a message of another kind, or twice for a word"
+    with open(printed, encoding="ascii") as file:
+        lines = [LLVM_LINE.fullmatch(line).groups() for line in file if not line.startswith(LLVM_DIRECTIVES)]
+    assert len(lines) + len(unknown) == len(words), f"{printed}: {len(lines)} lines and {len(unknown)} messages"
+    rest = iter(lines)
+    return [None if number in unknown else next(rest) for number in range(1, len(words) + 1)]
