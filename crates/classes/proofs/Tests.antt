@@ -17,6 +17,10 @@ pub and-r : (a b : Bool) → T (a && b) → T b
 and-r true b t = t
 and-r false b t = absurd t
 
+pub and-i : (a b : Bool) → T a → T b → T (a && b)
+and-i true b s t = t
+and-i false b s t = s
+
 pub or-l : (a b : Bool) → T a → T (a || b)
 or-l true b t = tt
 or-l false b t = absurd t

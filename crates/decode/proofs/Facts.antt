@@ -10,7 +10,7 @@ use lib.Dec.{T, eqb}
 use Rattle.word.specs.Word.{Field, sameField, Field-discrete, Fields, room, Fit}
 use Rattle.classes.specs.Meaning.{nopLike}
 use Rattle.classes.specs.Refusals.{elem}
-use Rattle.classes.proofs.Tests.{allBelow, below}
+use Rattle.classes.proofs.Tests.{allBelow, below, and-i}
 use Rattle.decode.specs.Groups.{NoneOf}
 
 -- ── facts ──
@@ -80,10 +80,6 @@ sure ks x p = elim (valueOf ks x) [ some v ↦ p v | none ↦ allBelow (λ a. no
 
 pub at-true : {b : Bool} → b ≡ true → T b
 at-true e = subst T (sym e) tt
-
-pub and-i : (a b : Bool) → T a → T b → T (a && b)
-and-i true b s t = t
-and-i false b s t = s
 
 none-no : (a : ℕ) (vs : List ℕ) → NoneOf a vs → T (not (elem a vs))
 unfolding elem

@@ -1,4 +1,5 @@
 pub mod Axes
+pub mod Same
 pub mod Slots
 pub mod Verdict
 pub mod Lines

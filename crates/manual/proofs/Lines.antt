@@ -14,8 +14,7 @@ use Rattle.manual.specs.Page.{Format, Page, defines, Line, has}
 use Rattle.manual.specs.Pages.{pages}
 use Rattle.manual.specs.Aliases.{Alias, aliases, aliasLines, formatLine, linesOf}
 use Rattle.manual.specs.Agreement.{book, firstLine, lineFor, anyDefines, found}
-use Rattle.manual.proofs.Slots.{same-field}
-use Rattle.manual.proofs.Verdict.{sameNumbers, numbers-same}
+use Rattle.manual.proofs.Same.{sameList, same-field, sameNumbers, same-numbers}
 
 -- ── Format lines that leave no word out ──
 
@@ -51,7 +50,7 @@ unfolding holds
 opposed-met (x ∈ vs) (y ∈ us) f h = absurd h
 opposed-met (x ∈ vs) (y ∉ us) f h =
     ap₂ (λ (z : Field) (l : List ℕ). elem (f x) vs || not (elem (f z) l)) (sym (same-field x y (and-l (sameField x y) _ h)))
-    (sym (numbers-same vs us (and-r (sameField x y) _ h)))
+    (sym (same-numbers vs us (and-r (sameField x y) _ h)))
     ∙ either (elem (f x) vs)
   where
     either : (b : Bool) → (b || not b) ≡ true
@@ -170,7 +169,7 @@ lines-found (p ∷ ps) f t =
     rest e = found-append (map (formatLine p) (p .formats)) (linesOf ps) f ∙ ap₂ _||_ formats e
 
 book-closed : (wide : Bool) → T (allClosed (book pages wide))
-unfolding allClosed closed book pages sameNumbers
+unfolding allClosed closed book pages sameList
 book-closed true = tt
 book-closed false = tt
 

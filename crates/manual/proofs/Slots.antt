@@ -21,6 +21,7 @@ use Rattle.manual.specs.Page.{Name, Base, Offset, InstrIndex, sameName, 
 use Rattle.manual.specs.Page.{Arg, gpr, fpr, fcr, hwr, cp0, cp2, unsigned, signed16, plus, span, offset-base, index-base, pc-relative}
 use Rattle.manual.specs.Page.{in-region, Meant, GPR, FPR, CP0, number, memory, address, meantBy}
 use Rattle.manual.specs.Agreement.{shows}
+use Rattle.manual.proofs.Same.{decided, sameList, same-list, same-field, sameFields, same-fields}
 
 -- ── where a field of a page stands ──
 
@@ -131,12 +132,6 @@ onColumn k [] = none
 onColumn k (x ∷ []) = some (k x)
 onColumn k (x ∷ y ∷ xs) = none
 
-unfoldable pub sameFields : List Field → List Field → Bool
-sameFields [] [] = true
-sameFields [] (y ∷ ys) = false
-sameFields (x ∷ xs) [] = false
-sameFields (x ∷ xs) (y ∷ ys) = sameField x y && sameFields xs ys
-
 abbrev whenTrue : Bool → Slot → Option Slot
 whenTrue b s = cond b (some s) none
 
@@ -156,25 +151,10 @@ slotOf p index-base = none
 slotOf p pc-relative = whenTrue (sameFields (spots p Offset) low16) (plain br)
 slotOf p in-region = whenTrue (sameFields (spots p InstrIndex) low26) (plain jmp)
 
-pub same-field : (x y : Field) → T (sameField x y) → x ≡ y
-same-field x y t = go (Field-discrete x y) t
-  where
-    go : (d : Dec (x ≡ y)) → T (elim d [ yes e ↦ true | no k ↦ false ]) → x ≡ y
-    go (yes e) s = e
-    go (no k) s = absurd s
-
-same-fields : (xs ys : List Field) → T (sameFields xs ys) → xs ≡ ys
-unfolding sameFields
-same-fields [] [] t = refl
-same-fields [] (y ∷ ys) t = absurd t
-same-fields (x ∷ xs) [] t = absurd t
-same-fields (x ∷ xs) (y ∷ ys) t =
-    ap₂ (λ (z : Field) (zs : List Field). z ∷ zs) (same-field x y (and-l (sameField x y) (sameFields xs ys) t))
-    (same-fields xs ys (and-r (sameField x y) (sameFields xs ys) t))
-
-when-true : (b : Bool) (s t : Slot) → whenTrue b s ≡ some t → T b × (s ≡ t)
-when-true true s t e = (tt, Option·some-injective s t e)
-when-true false s t e = absurd (Option·none-ne-some t e)
+-- an answer that a test gives: the test is true
+when-some : {A : Type 0} (b : Bool) (a k : A) → cond b (some a) none ≡ some k → T b × (a ≡ k)
+when-some true a k e = (tt, Option·some-injective a k e)
+when-some false a k e = absurd (Option·none-ne-some k e)
 
 on-column : (k : Field → Slot) (l : List Field) (s : Slot) → onColumn k l ≡ some s → (P : Slot → Type 0) → ((x : Field) → l ≡ x ∷ [] → P (k x)) → P s
 on-column k [] s e P h = absurd (Option·none-ne-some s e)
@@ -198,33 +178,33 @@ slot-meant p (unsigned n) s e va f = go (sameFields (spots p n) low16) refl e
         (ap (λ (k : ℕ). number (pos k)) (value-low16 p f n (same-fields (spots p n) low16 (subst T (sym d) tt))))
     go false d c = on-column _ (spots p n) s c (λ t. number (pos (value p f n)) ≡ shows (slotOut t va f)) (λ x h. ap (λ (k : ℕ). number (pos k)) (value-at p f n x h))
 slot-meant p (signed16 n) s e va f =
-    let r = when-true (sameFields (spots p n) low16) (plain s16) s e in
+    let r = when-some (sameFields (spots p n) low16) (plain s16) s e in
     subst (λ (t : Slot). number (signed 16 (value p f n)) ≡ shows (slotOut t va f)) (r .1)
     (ap (λ (k : ℕ). number (signed 16 k)) (value-low16 p f n (same-fields (spots p n) low16 (r .0))))
 slot-meant p (plus k n) s e va f =
-    let r = when-true (eqb k 1 && sameFields (spots p n) (rd ∷ [])) (plain size) s e in
+    let r = when-some (eqb k 1 && sameFields (spots p n) (rd ∷ [])) (plain size) s e in
     subst (λ (t : Slot). number (pos (value p f n + k)) ≡ shows (slotOut t va f)) (r .1)
     (ap₂ (λ (i j : ℕ). number (pos (i + j))) (value-at p f n rd (same-fields (spots p n) (rd ∷ []) (and-r (eqb k 1) _ (r .0))))
     (eqb→eq k 1 (and-l (eqb k 1) _ (r .0))))
 slot-meant p (span k m l) s e va f =
-    let r = when-true (eqb k 0 && (sameFields (spots p m) (rd ∷ []) && sameFields (spots p l) (sa ∷ []))) insSize s e in
+    let r = when-some (eqb k 0 && (sameFields (spots p m) (rd ∷ []) && sameFields (spots p l) (sa ∷ []))) insSize s e in
     let none-added : k ≡ 0 = eqb→eq k 0 (and-l (eqb k 0) _ (r .0)) in
     let last : value p f m ≡ f rd = value-at p f m rd (same-fields (spots p m) (rd ∷ []) (and-l (sameFields (spots p m) (rd ∷ [])) _ (and-r (eqb k 0) _ (r .0)))) in
     let first : value p f l ≡ f sa = value-at p f l sa (same-fields (spots p l) (sa ∷ []) (and-r (sameFields (spots p m) (rd ∷ [])) _ (and-r (eqb k 0) _ (r .0)))) in
     let sum : value p f m + k ≡ f rd = omega (arith, none-added, last) in
     subst (λ (t : Slot). number (sizeOf (value p f m + k) (value p f l)) ≡ shows (slotOut t va f)) (r .1) (ap₂ (λ (i j : ℕ). number (sizeOf i j)) sum first)
 slot-meant p offset-base s e va f =
-    let r = when-true (sameFields (spots p Offset) low16 && sameFields (spots p Base) (rs ∷ [])) (plain mem) s e in
+    let r = when-some (sameFields (spots p Offset) low16 && sameFields (spots p Base) (rs ∷ [])) (plain mem) s e in
     subst (λ (t : Slot). memory (signed 16 (value p f Offset)) (value p f Base) ≡ shows (slotOut t va f)) (r .1)
     (ap₂ (λ (i j : ℕ). memory (signed 16 i) j) (value-low16 p f Offset (same-fields (spots p Offset) low16 (and-l (sameFields (spots p Offset) low16) _ (r .0))))
     (value-at p f Base rs (same-fields (spots p Base) (rs ∷ []) (and-r (sameFields (spots p Offset) low16) _ (r .0)))))
 slot-meant p index-base s e va f = absurd (Option·none-ne-some s e)
 slot-meant p pc-relative s e va f =
-    let r = when-true (sameFields (spots p Offset) low16) (plain br) s e in
+    let r = when-some (sameFields (spots p Offset) low16) (plain br) s e in
     subst (λ (t : Slot). address (branchTo va (value p f Offset)) ≡ shows (slotOut t va f)) (r .1)
     (ap (λ (k : ℕ). address (branchTo va k)) (value-low16 p f Offset (same-fields (spots p Offset) low16 (r .0))))
 slot-meant p in-region s e va f =
-    let r = when-true (sameFields (spots p InstrIndex) low26) (plain jmp) s e in
+    let r = when-some (sameFields (spots p InstrIndex) low26) (plain jmp) s e in
     subst (λ (t : Slot). address (jumpTo va (value p f InstrIndex)) ≡ shows (slotOut t va f)) (r .1)
     (ap (λ (k : ℕ). address (jumpTo va k)) (value-low26 p f InstrIndex (same-fields (spots p InstrIndex) low26 (r .0))))
 
@@ -264,10 +244,6 @@ unfolding elem
 is-31 [] a t = absurd t
 is-31 (v ∷ []) a t = or-false (eqb a v) ∙ ap (λ (k : ℕ). eqb a k) (eqb→eq v 31 t)
 is-31 (v ∷ u ∷ vs) a t = absurd t
-
-when-some : {A : Type 0} (b : Bool) (a k : A) → cond b (some a) none ≡ some k → T b × (a ≡ k)
-when-some true a k e = (tt, Option·some-injective a k e)
-when-some false a k e = absurd (Option·none-ne-some k e)
 
 -- rd is tested for 31
 tested : (x : Field) (vs : List ℕ) (f : Fields) → T (sameField x rd && is31 vs) → elem (f x) vs ≡ eqb (f rd) 31
@@ -327,26 +303,11 @@ line-meant p (a ∷ xs) l e va f = go (slotOf p a) refl (lineSlots p xs) refl e 
         ap₂ (λ (m : Meant) (ms : List Meant). m ∷ ms) (slot-meant p a s d va f) (rec k c)
         ∙ ap (λ (j : List Slot). map shows (slotOuts va f j)) (Option·some-injective (s ∷ k) l h)
 
-unfoldable pub sameSlots : List Slot → List Slot → Bool
-sameSlots [] [] = true
-sameSlots [] (t ∷ l) = false
-sameSlots (s ∷ k) [] = false
-sameSlots (s ∷ k) (t ∷ l) = sameSlot s t && sameSlots k l
+abbrev sameSlots : List Slot → List Slot → Bool
+sameSlots k l = sameList sameSlot k l
 
-same-slot : (s t : Slot) → T (sameSlot s t) → s ≡ t
-same-slot s t h = go (Slot-discrete (Code-discrete Field-discrete) s t) h
-  where
-    go : (d : Dec (s ≡ t)) → T (elim d [ yes e ↦ true | no k ↦ false ]) → s ≡ t
-    go (yes e) w = e
-    go (no k) w = absurd w
-
-pub same-slots : (k l : List Slot) → T (sameSlots k l) → k ≡ l
-unfolding sameSlots
-same-slots [] [] h = refl
-same-slots [] (t ∷ l) h = absurd h
-same-slots (s ∷ k) [] h = absurd h
-same-slots (s ∷ k) (t ∷ l) h =
-    ap₂ (λ (a : Slot) (r : List Slot). a ∷ r) (same-slot s t (and-l (sameSlot s t) (sameSlots k l) h)) (same-slots k l (and-r (sameSlot s t) (sameSlots k l) h))
+same-slots : (k l : List Slot) → T (sameSlots k l) → k ≡ l
+same-slots k l t = same-list sameSlot (λ a b. decided (Slot-discrete (Code-discrete Field-discrete) a b)) k l t
 
 -- THE TEST: a line's operands are a row's
 abbrev sameLists : Option (List Slot) → Option (List Slot) → Bool

@@ -15,15 +15,16 @@ use Rattle.manual.specs.Aliases.{aliases, aliasLines, linesOf}
 use Rattle.manual.specs.Exceptions.{flagged, refusedWords, otherReadings, reservedWords, differences}
 use Rattle.manual.specs.Agreement.{book}
 use Rattle.manual.proofs.Axes.{askClaim, askClaims, askColumn}
-use Rattle.manual.proofs.Slots.{fullIn, partlyIn, spots, sameFields, slotOf, formSlots, lineSlots, sameSlots, sameOperands}
-use Rattle.manual.proofs.Verdict.{matches, argSort, codeSort, formSorts, sameNumbers, clashes, sorted, readAs, refusedAs, each, verdict}
+use Rattle.manual.proofs.Same.{sameList}
+use Rattle.manual.proofs.Slots.{fullIn, partlyIn, spots, slotOf, formSlots, lineSlots, sameOperands}
+use Rattle.manual.proofs.Verdict.{matches, argSort, codeSort, formSorts, clashes, sorted, readAs, refusedAs, each, verdict}
 use Rattle.manual.proofs.Verdict.{together}
 use Rattle.manual.proofs.Left.{tag, boxed, partsIn, partsOf}
 use Rattle.manual.proofs.Computed.{keep, free, mark, good, sound}
 
 -- the test of the tables under a flag, with all that it computes with
 unfoldable pub tested : Bool → Bool
-unfolding sound walk spread sift freeIn markIn keep free mark good from mnemonics nameOf match six common byWidth table elem refusals guardOf boxesBy testBox testsBox fit names named oneAbove implied tied told whole pages aliases aliasLines linesOf flagged refusedWords otherReadings reservedWords differences book askClaim askClaims askColumn fullIn partlyIn spots sameFields slotOf formSlots lineSlots sameSlots sameOperands matches argSort codeSort formSorts sameNumbers clashes sorted readAs refusedAs each verdict together tag boxed partsIn partsOf
+unfolding sound walk spread sift freeIn markIn keep free mark good from mnemonics nameOf match six common byWidth table elem refusals guardOf boxesBy testBox testsBox fit names named oneAbove implied tied told whole pages aliases aliasLines linesOf flagged refusedWords otherReadings reservedWords differences book askClaim askClaims askColumn fullIn partlyIn spots sameList slotOf formSlots lineSlots sameOperands matches argSort codeSort formSorts clashes sorted readAs refusedAs each verdict together tag boxed partsIn partsOf
 tested wide = sound (table wide) refusals (linesOf (book pages wide)) (partsOf differences wide)
 
 -- each by itself, for the limit of one declaration

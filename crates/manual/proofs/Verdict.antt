@@ -10,7 +10,6 @@ use mathlib.Core.Option.{Option, none, some, Option·none-ne-some, Option·some-
 use mathlib.Core.Logic.{inl, inr}
 use lib.Dec.{T, eqb, eqb→eq}
 use lib.Text.{eqt, eqt→eq, eqt-refl}
-use borrow.Author.Tests.{eq-eqb}
 use Rattle.word.specs.Word.{Field-discrete, Fields, rs, rd}
 use Rattle.reading.specs.declared.Op.{Op}
 use Rattle.reading.specs.declared.Op.the-variants.{Reg, FReg, Imm, Mem, Addr, Cop0}
@@ -27,6 +26,7 @@ use Rattle.manual.specs.Page.{Name, Meant, GPR, FPR, FCR, HWR, CP0, CP2,
 use Rattle.manual.specs.Page.{whole}
 use Rattle.manual.specs.Exceptions.{Sort, Answer, refused, reads, Difference}
 use Rattle.manual.specs.Agreement.{used, shows, targetAmong, Reads, OneOf, Answered}
+use Rattle.manual.proofs.Same.{decided, sameNumbers, numbers-same}
 use Rattle.manual.proofs.Slots.{sameOperands, operands-meant}
 
 -- ── the operands in use ──
@@ -212,25 +212,6 @@ form-sorts (c ▸ φ) l e va f = go (formSorts φ) refl e (λ k d. form-sorts φ
 form-sorts posSize l e va f = Option·some-injective (6 ∷ 6 ∷ []) l e
 form-sorts link l e va f = absurd (Option·none-ne-some l e)
 
-unfoldable pub sameNumbers : List ℕ → List ℕ → Bool
-sameNumbers [] [] = true
-sameNumbers [] (n ∷ l) = false
-sameNumbers (m ∷ k) [] = false
-sameNumbers (m ∷ k) (n ∷ l) = eqb m n && sameNumbers k l
-
-same-numbers : (k : List ℕ) → T (sameNumbers k k)
-unfolding sameNumbers
-same-numbers [] = tt
-same-numbers (m ∷ k) = subst (λ (b : Bool). T (b && sameNumbers k k)) (sym (eq-eqb m m refl)) (same-numbers k)
-
-pub numbers-same : (k l : List ℕ) → T (sameNumbers k l) → k ≡ l
-unfolding sameNumbers
-numbers-same [] [] t = refl
-numbers-same [] (n ∷ l) t = absurd t
-numbers-same (m ∷ k) [] t = absurd t
-numbers-same (m ∷ k) (n ∷ l) t =
-    ap₂ (λ (a : ℕ) (r : List ℕ). a ∷ r) (eqb→eq m n (and-l (eqb m n) (sameNumbers k l) t)) (numbers-same k l (and-r (eqb m n) (sameNumbers k l) t))
-
 abbrev otherSorts : List ℕ → Option (List ℕ) → Bool
 otherSorts k none = false
 otherSorts k (some l) = not (sameNumbers k l)
@@ -268,7 +249,7 @@ clashes-reads ℓ r s t va f reads-it =
     sorts none e n = n
     sorts (some l) e n =
         not-both (sameNumbers (map argSort (ℓ .args)) l) n
-        (subst (λ (k : List ℕ). T (sameNumbers (map argSort (ℓ .args)) k)) (meant-sorts ∙ form-sorts (r .form) l e va f) (same-numbers (map argSort (ℓ .args))))
+        (subst (λ (k : List ℕ). T (sameNumbers (map argSort (ℓ .args)) k)) (meant-sorts ∙ form-sorts (r .form) l e va f) (numbers-same (map argSort (ℓ .args))))
 
 -- ── what an exception says of a row, and of a number ──
 
@@ -276,11 +257,7 @@ abbrev sameForm : Form → Form → Bool
 sameForm φ ψ = elim (Form-discrete (Code-discrete Field-discrete) φ ψ) [ yes e ↦ true | no d ↦ false ]
 
 same-form : (φ ψ : Form) → T (sameForm φ ψ) → φ ≡ ψ
-same-form φ ψ h = go (Form-discrete (Code-discrete Field-discrete) φ ψ) h
-  where
-    go : (d : Dec (φ ≡ ψ)) → T (elim d [ yes e ↦ true | no k ↦ false ]) → φ ≡ ψ
-    go (yes e) w = e
-    go (no k) w = absurd w
+same-form φ ψ t = decided (Form-discrete (Code-discrete Field-discrete) φ ψ) t
 
 unfoldable pub sorted : Row → List Sort → Bool
 sorted r [] = false
