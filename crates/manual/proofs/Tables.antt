@@ -27,7 +27,7 @@ unfoldable pub tested : Bool → Bool
 unfolding sound walk spread sift freeIn markIn keep free mark good from mnemonics nameOf match six common byWidth table elem refusals guardOf boxesBy testBox testsBox fit names named oneAbove implied tied told whole pages aliases aliasLines linesOf flagged refusedWords otherReadings reservedWords differences book askClaim askClaims askColumn fullIn partlyIn spots sameList slotOf formSlots lineSlots sameOperands matches argSort codeSort formSorts clashes sorted readAs refusedAs each verdict together tag boxed partsIn partsOf
 tested wide = sound (table wide) refusals (linesOf (book pages wide)) (partsOf differences wide)
 
--- each by itself, for the limit of one declaration
+-- each flag by itself, which leaves room for larger tables under the prover's limit of steps for one declaration
 tested-wide : T (tested true)
 unfolding tested
 tested-wide = tt

@@ -6,10 +6,9 @@ use mathlib.Core.Bool.{Bool, true, false, _&&_, _||_, not}
 use mathlib.Core.List.{List, [], _∷_, _++_}
 use Rattle.word.specs.Word.{Field, op, rs, rt, rd, sa, fn, Fields}
 use Rattle.reading.specs.Kind as kind
-use Rattle.classes.specs.Row.{Form}
+use Rattle.classes.specs.Row.{Form, link}
 use Rattle.classes.specs.Table.{no-operands, one-rs, one-rd, rd-rs, rd-rt, rs-rt, rd-rs-rt, rd-rt-rs, rd-rt-sa, offset, rs-offset, rt-imm, rt-uimm}
 use Rattle.classes.specs.Table.{rt-rs-imm, rt-base, rt-cop0, rt-fs, fd-fs-ft, fd-fs, fs-ft, ext-pos-size, ins-pos-size, rt-hwr}
-use Rattle.classes.specs.Row.{link}
 use Rattle.classes.specs.Refusals.{Test, _∈_, _∉_, _to_, only}
 use Rattle.classes.specs.Unread.{shiftsByConstant, variableShifts, multiplyDivide, traps, movesCop1, bc1Words}
 use Rattle.manual.specs.Page.{Claim, holds, fails, rs-is-rd, rt-is-rd, inside, ordered, Rules, obeys}
