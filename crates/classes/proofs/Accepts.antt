@@ -104,7 +104,7 @@ unfolding exact ones walk spread sift freeIn markIn boxes boxesBy guardOf refuse
 exact-table true = tt
 exact-table false = tt
 
-numbered-refusals : T (numbered refusals)
+pub numbered-refusals : T (numbered refusals)
 unfolding numbered refusals
 numbered-refusals = tt
 

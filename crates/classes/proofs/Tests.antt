@@ -1,12 +1,14 @@
--- Laws of tests: conjunctions, a test at each field, a test computed at every number below a bound.
+-- Laws of tests: their connectives, sameness, a test at each field, a test computed at every number below a bound.
 -- Assumes nothing.
 use Prim.Native.Nat.{ℕ, zero, suc, _<_}
 use mathlib.Core.Path.{_≡_, refl, sym, _∙_, ap, subst}
-use mathlib.Core.Bool.{Bool, true, false, _&&_, _||_, Bool·beq}
+use mathlib.Core.Bool.{Bool, true, false, not, _&&_, _||_, Bool·beq}
+use mathlib.Core.Logic.{_⊎_, inl, inr}
 use native.Mathlib.Omega.{arith}
 use lib.Dec.{T, eqb}
 use borrow.Author.Tests.{eqb-true, eqb-false}
-use Rattle.word.specs.Word.{Field, sameField, op, rs, rt, rd, sa, fn}
+use Rattle.word.specs.Word.{Field, Field-discrete, sameField, op, rs, rt, rd, sa, fn}
+use Rattle.classes.specs.Row.{Code-discrete, Form, Form-discrete}
 use Rattle.classes.specs.Meaning.{six}
 
 pub and-l : (a b : Bool) → T (a && b) → T a
@@ -29,12 +31,44 @@ pub or-r : (a b : Bool) → T b → T (a || b)
 or-r true b t = tt
 or-r false b t = t
 
+pub or-e : (a b : Bool) → T (a || b) → T a ⊎ T b
+or-e true b t = inl tt
+or-e false b t = inr t
+
+pub not-e : (b : Bool) → T (not b) → ¬ T b
+not-e true s t = s
+not-e false s t = t
+
+pub not-i : (b : Bool) → ¬ T b → T (not b)
+not-i true n = n tt
+not-i false n = tt
+
+pub implies : (a b : Bool) → (T a → T b) → T (not a || b)
+implies true b h = h tt
+implies false b h = tt
+
+pub implied : (a b : Bool) → T (not a || b) → T a → T b
+implied true b t s = t
+implied false b t s = absurd s
+
+-- a test whose value is known
+pub at-true : {b : Bool} → b ≡ true → T b
+at-true e = subst T (sym e) tt
+
+pub at-false : {b : Bool} → b ≡ false → T (not b)
+at-false e = subst (λ (c : Bool). T (not c)) (sym e) tt
+
 -- two tests that agree
 pub beq-same : (a b : Bool) → T (Bool·beq a b) → a ≡ b
 beq-same true true t = refl
 beq-same true false t = absurd t
 beq-same false true t = absurd t
 beq-same false false t = refl
+
+-- a decision that computes to yes
+pub decided : {A : Type 0} (d : Dec A) → T (elim d [ yes e ↦ true | no n ↦ false ]) → A
+decided (yes e) t = e
+decided (no n) t = absurd t
 
 -- two conjunctions, pair by pair
 pub zip : (a b c d : Bool) → (a && b) && (c && d) ≡ (a && c) && (b && d)
@@ -66,6 +100,14 @@ six-at p t rd = and-l (p rd) _ (and-r (p rt) _ (and-r (p rs) _ (and-r (p op) _ t
 six-at p t sa = and-l (p sa) _ (and-r (p rd) _ (and-r (p rt) _ (and-r (p rs) _ (and-r (p op) _ t))))
 six-at p t fn = and-r (p sa) (p fn) (and-r (p rd) _ (and-r (p rt) _ (and-r (p rs) _ (and-r (p op) _ t))))
 
+pub six-make : (p : Field → Bool) → ((x : Field) → T (p x)) → T (six p)
+unfolding six
+six-make p h =
+    and-i (p op) _ (h op) (and-i (p rs) _ (h rs) (and-i (p rt) _ (h rt) (and-i (p rd) _ (h rd) (and-i (p sa) (p fn) (h sa) (h fn)))))
+
+pub same-field : (x y : Field) → T (sameField x y) → x ≡ y
+same-field x y t = decided (Field-discrete x y) t
+
 pub self : (x : Field) → T (sameField x x)
 self op = tt
 self rs = tt
@@ -73,6 +115,12 @@ self rt = tt
 self rd = tt
 self sa = tt
 self fn = tt
+
+abbrev pub sameForm : Form → Form → Bool
+sameForm φ ψ = elim (Form-discrete (Code-discrete Field-discrete) φ ψ) [ yes e ↦ true | no d ↦ false ]
+
+pub same-form : (φ ψ : Form) → T (sameForm φ ψ) → φ ≡ ψ
+same-form φ ψ t = decided (Form-discrete (Code-discrete Field-discrete) φ ψ) t
 
 -- a test at every number below a bound
 unfoldable pub allBelow : (ℕ → Bool) → ℕ → Bool

@@ -22,7 +22,7 @@ use Rattle.classes.proofs.Accepts.{accepted}
 
 -- ── the fields that operands are made of ──
 
-abbrev low16 : Field → Bool
+abbrev pub low16 : Field → Bool
 low16 x = sameField rd x || (sameField sa x || sameField fn x)
 
 unfoldable pub uses : Code → Field → Bool
@@ -65,7 +65,7 @@ module _ (f g : Fields) where
   out-same br va h = ap (λ (n : ℕ). Addr (branchTo va n)) (imm-same (h rd tt) (h sa tt) (h fn tt))
   out-same jmp va h = ap (λ (n : ℕ). Addr (jumpTo va n)) (index-same (h rs tt) (h rt tt) (h rd tt) (h sa tt) (h fn tt))
 
-  outs-same : (φ : Form) (va : ℕ) → ((x : Field) → T (usesForm φ x) → f x ≡ g x) → outs φ va f ≡ outs φ va g
+  pub outs-same : (φ : Form) (va : ℕ) → ((x : Field) → T (usesForm φ x) → f x ≡ g x) → outs φ va f ≡ outs φ va g
   unfolding outs usesForm
   outs-same end va h = refl
   outs-same (c ▸ φ) va h =
@@ -84,7 +84,7 @@ isRead (skip y) = false
 isRead (skipBut v) = false
 isRead (low v) = false
 
-read-agree : (p : Pat) (a b : ℕ) → T (isRead p) → AgreeAt p a b → a ≡ b
+pub read-agree : (p : Pat) (a b : ℕ) → T (isRead p) → AgreeAt p a b → a ≡ b
 unfolding isRead
 read-agree (is v) a b t e = e
 read-agree read a b t e = e

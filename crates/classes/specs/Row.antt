@@ -54,6 +54,7 @@ infixr 40 _▸_
 pub data Control : Type 0 where
   plain call jump branch return interrupt : Control
   byRegister : Control  -- Ret for register 31, else Jump
+  deriving Discrete as Control-discrete
 
 -- the effect, made of the operands
 pub data Change : Type 0 where
@@ -63,6 +64,7 @@ pub data Change : Type 0 where
   sets : Change  -- AddImm of the first, register 0 and the second
   setsUpper : Change  -- SetAddr of the first, with the second as lui leaves it
   loads stores : ℕ → Change  -- Mem, of this size; a store has register 0 first
+  deriving Discrete as Change-discrete
 
 -- ── a row ──
 

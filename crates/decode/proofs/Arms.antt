@@ -18,9 +18,9 @@ use Rattle.classes.specs.Meaning.{match, six, nopLike, meaning}
 use Rattle.classes.specs.Table.{common, byWidth, table}
 use Rattle.classes.specs.Refusals.{elem, refusal, refusals}
 use Rattle.classes.specs.Decoded.{acceptedAs, decodedBy, decodedOf}
-use Rattle.classes.proofs.Tests.{allBelow}
+use Rattle.classes.proofs.Tests.{allBelow, at-true}
 use Rattle.classes.proofs.Accepts.{accepted, acceptance, one-or-other}
-use Rattle.decode.proofs.Facts.{Fact, _≐_, Known, at-true, possible, leaves, valueIn, valueOf, sure}
+use Rattle.decode.proofs.Facts.{Fact, _≐_, Known, possible, leaves, valueIn, valueOf, sure}
 use Rattle.decode.proofs.Rows.{surely, isBusy, certain, chosen, chosen-found}
 use Rattle.decode.proofs.Entries.{sureTest, sureTests, refusing-number, number-is}
 

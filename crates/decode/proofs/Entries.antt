@@ -9,9 +9,9 @@ use native.Mathlib.Omega.{arith}
 use lib.Dec.{T}
 use Rattle.word.specs.Word.{Fields, Fit}
 use Rattle.classes.specs.Refusals.{Test, _∈_, _∉_, elem, holds, Refusal, meets, refusal}
-use Rattle.classes.proofs.Tests.{and-l, and-r, and-i}
+use Rattle.classes.proofs.Tests.{and-l, and-r, and-i, at-true}
 use Rattle.classes.proofs.Boxes.{bit, refusing}
-use Rattle.decode.proofs.Facts.{Fact, Known, at-true, sure, sure-holds}
+use Rattle.decode.proofs.Facts.{Fact, Known, sure, sure-holds}
 
 -- ── the entry that refuses it ──
 

@@ -10,7 +10,7 @@ use lib.Dec.{T, eqb}
 use Rattle.word.specs.Word.{Field, sameField, Field-discrete, Fields, room, Fit}
 use Rattle.classes.specs.Meaning.{nopLike}
 use Rattle.classes.specs.Refusals.{elem}
-use Rattle.classes.proofs.Tests.{allBelow, below, and-i}
+use Rattle.classes.proofs.Tests.{allBelow, below, and-i, implied, at-true}
 use Rattle.decode.specs.Groups.{NoneOf}
 
 -- ── facts ──
@@ -78,9 +78,6 @@ sure ks x p = elim (valueOf ks x) [ some v ↦ p v | none ↦ allBelow (λ a. no
 
 -- ── they are all that it can have ──
 
-pub at-true : {b : Bool} → b ≡ true → T b
-at-true e = subst T (sym e) tt
-
 none-no : (a : ℕ) (vs : List ℕ) → NoneOf a vs → T (not (elem a vs))
 unfolding elem
 none-no a [] h = tt
@@ -111,10 +108,6 @@ possible-is : (ks : List Fact) (f : Fields) → Known f ks → (x : Field) → T
 unfolding possible
 possible-is [] f h x = tt
 possible-is (k ∷ ks) f h x = and-i (leaves k x (f x)) (possible ks x (f x)) (left k f (h .0) x) (possible-is ks f (h .1) x)
-
-implied : (a b : Bool) → T (not a || b) → T a → T b
-implied true b t s = t
-implied false b t s = absurd s
 
 value-in : (k : Fact) (f : Fields) → Holds f k → (x : Field) (v : ℕ) → valueIn k x ≡ some v → f x ≡ v
 unfolding valueIn

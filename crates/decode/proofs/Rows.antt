@@ -11,9 +11,9 @@ use Rattle.word.specs.Word.{Field, op, rs, rt, rd, sa, fn, Fields, Fit}
 use Rattle.classes.specs.Row.{Pat, is, read, readBut, skip, skipBut, low, Row, patOf}
 use Rattle.classes.specs.Meaning.{match, six, nopLike, takes, find}
 use Rattle.classes.specs.Theorems.{taking}
-use Rattle.classes.proofs.Tests.{and-l, and-r, six-at, and-i}
+use Rattle.classes.proofs.Tests.{and-l, and-r, six-at, and-i, at-true}
 use Rattle.classes.proofs.Boxes.{bit}
-use Rattle.decode.proofs.Facts.{Fact, _≐_, _≠_, _noneOf_, _lowIs_, _lowNoneOf_, busy, Known, at-true, sure, sure-holds}
+use Rattle.decode.proofs.Facts.{Fact, _≐_, _≠_, _noneOf_, _lowIs_, _lowNoneOf_, busy, Known, sure, sure-holds}
 
 -- ── the row that takes the word ──
 

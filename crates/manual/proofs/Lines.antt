@@ -9,12 +9,12 @@ use lib.Dec.{T}
 use lib.Text.{eqt}
 use Rattle.word.specs.Word.{Field, sameField, Fields}
 use Rattle.classes.specs.Refusals.{Test, _∈_, _∉_, elem, holds, meets, only}
-use Rattle.classes.proofs.Tests.{and-l, and-r, and-true}
+use Rattle.classes.proofs.Tests.{and-l, and-r, and-true, same-field}
 use Rattle.manual.specs.Page.{Format, Page, defines, Line, has}
 use Rattle.manual.specs.Pages.{pages}
 use Rattle.manual.specs.Aliases.{Alias, aliases, aliasLines, formatLine, linesOf}
 use Rattle.manual.specs.Agreement.{book, firstLine, lineFor, anyDefines, found}
-use Rattle.manual.proofs.Same.{sameList, same-field, sameNumbers, same-numbers}
+use Rattle.manual.proofs.Same.{sameList, sameNumbers, same-numbers}
 
 -- ── Format lines that leave no word out ──
 

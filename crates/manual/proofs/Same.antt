@@ -6,12 +6,8 @@ use mathlib.Core.Bool.{Bool, true, false, _&&_}
 use mathlib.Core.List.{List, [], _∷_}
 use lib.Dec.{T, eqb, eqb→eq}
 use borrow.Author.Tests.{eq-eqb}
-use Rattle.word.specs.Word.{Field, Field-discrete, sameField}
-use Rattle.classes.proofs.Tests.{and-l, and-r, and-i}
-
-pub decided : {A : Type 0} (d : Dec A) → T (elim d [ yes e ↦ true | no n ↦ false ]) → A
-decided (yes e) t = e
-decided (no n) t = absurd t
+use Rattle.word.specs.Word.{Field, sameField}
+use Rattle.classes.proofs.Tests.{and-l, and-r, and-i, same-field}
 
 -- lists whose members are the same, one by one
 module _ {A : Type 0} (same : A → A → Bool) where
@@ -35,9 +31,6 @@ module _ {A : Type 0} (same : A → A → Bool) where
   list-same h (a ∷ k) = and-i (same a a) (sameList k k) (h a) (list-same h k)
 
 -- ── fields ──
-
-pub same-field : (x y : Field) → T (sameField x y) → x ≡ y
-same-field x y t = decided (Field-discrete x y) t
 
 abbrev pub sameFields : List Field → List Field → Bool
 sameFields xs ys = sameList sameField xs ys

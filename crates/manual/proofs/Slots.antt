@@ -16,12 +16,12 @@ use Rattle.reading.specs.declared.Op.the-variants.{Reg, Imm}
 use Rattle.classes.specs.Row.{Code, Code-discrete, reg, freg, cop0, num, size, s16, u16, mem, br, jmp, Form, end, _▸_, posSize, link}
 use Rattle.classes.specs.Meaning.{out, outs}
 use Rattle.classes.specs.Refusals.{Test, _∈_, _∉_, elem, holds, meets}
-use Rattle.classes.proofs.Tests.{and-l, and-r}
+use Rattle.classes.proofs.Tests.{and-l, and-r, decided, same-field}
 use Rattle.manual.specs.Page.{Name, Base, Offset, InstrIndex, sameName, Column, is, box, over, under, part, Page, columnOf, value}
 use Rattle.manual.specs.Page.{Arg, gpr, fpr, fcr, hwr, cp0, cp2, unsigned, signed16, plus, span, offset-base, index-base, pc-relative}
 use Rattle.manual.specs.Page.{in-region, Meant, GPR, FPR, CP0, number, memory, address, meantBy}
 use Rattle.manual.specs.Agreement.{shows}
-use Rattle.manual.proofs.Same.{decided, sameList, same-list, same-field, sameFields, same-fields}
+use Rattle.manual.proofs.Same.{sameList, same-list, sameFields, same-fields}
 
 -- ── where a field of a page stands ──
 

@@ -10,23 +10,23 @@ use mathlib.Core.Option.{Option, none, some, Option·none-ne-some, Option·some-
 use mathlib.Core.Logic.{inl, inr}
 use lib.Dec.{T, eqb, eqb→eq}
 use lib.Text.{eqt, eqt→eq, eqt-refl}
-use Rattle.word.specs.Word.{Field-discrete, Fields, rs, rd}
+use Rattle.word.specs.Word.{Fields, rs, rd}
 use Rattle.reading.specs.declared.Op.{Op}
 use Rattle.reading.specs.declared.Op.the-variants.{Reg, FReg, Imm, Mem, Addr, Cop0}
 use Rattle.reading.specs.Names.{nameOf}
-use Rattle.classes.specs.Row.{Code, Code-discrete, reg, freg, cop0, num, size, s16, u16, mem, br, jmp, Form, Form-discrete, end, _▸_, posSize, link}
+use Rattle.classes.specs.Row.{Code, reg, freg, cop0, num, size, s16, u16, mem, br, jmp, Form, end, _▸_, posSize, link}
 use Rattle.classes.specs.Row.{Control, Change, Row}
 use Rattle.classes.specs.Meaning.{out, outs, targetIn, reading, meaning}
 use Rattle.classes.specs.Refusals.{elem, meets}
 use Rattle.classes.specs.Decoded.{acceptedAs}
-use Rattle.classes.proofs.Tests.{and-l, and-r}
+use Rattle.classes.proofs.Tests.{and-l, and-r, not-e, sameForm, same-form}
 use Rattle.manual.specs.Page.{Arg, gpr, fpr, fcr, hwr, cp0, cp2, unsigned, signed16, plus, span, offset-base, index-base, pc-relative}
 use Rattle.manual.specs.Page.{in-region}
 use Rattle.manual.specs.Page.{Name, Meant, GPR, FPR, FCR, HWR, CP0, CP2, number, memory, indexed, address, meantBy, value, Rules, Line, meant}
 use Rattle.manual.specs.Page.{whole}
 use Rattle.manual.specs.Exceptions.{Sort, Answer, refused, reads, Difference}
 use Rattle.manual.specs.Agreement.{used, shows, targetAmong, Reads, OneOf, Answered}
-use Rattle.manual.proofs.Same.{decided, sameNumbers, numbers-same}
+use Rattle.manual.proofs.Same.{sameNumbers, numbers-same}
 use Rattle.manual.proofs.Slots.{sameOperands, operands-meant}
 
 -- ── the operands in use ──
@@ -224,15 +224,11 @@ or-split : (a b : Bool) → T (a || b) → (P : Type 0) → (T a → P) → (T b
 or-split true b t P l r = l tt
 or-split false b t P l r = r t
 
-not-both : (b : Bool) → T (not b) → T b → ⊥
-not-both true s t = s
-not-both false s t = t
-
 pub clashes-reads : (ℓ : Line) (r : Row) → T (fits r) → T (clashes ℓ r) → (va : ℕ) (f : Fields) → ¬ Reads ℓ va f (meaning r va f)
 unfolding clashes meaning reading meant
 clashes-reads ℓ r s t va f reads-it =
-    or-split (not (eqt (nameOf (r .kind)) (ℓ .name))) (not (whole ℓ) || other) t ⊥ (λ n. not-both (eqt (nameOf (r .kind)) (ℓ .name)) n names)
-    (λ u. or-split (not (whole ℓ)) other u ⊥ (λ n. not-both (whole ℓ) n (reads-it .whole)) (λ o. sorts (formSorts (r .form)) refl o))
+    or-split (not (eqt (nameOf (r .kind)) (ℓ .name))) (not (whole ℓ) || other) t ⊥ (λ n. not-e (eqt (nameOf (r .kind)) (ℓ .name)) n names)
+    (λ u. or-split (not (whole ℓ)) other u ⊥ (λ n. not-e (whole ℓ) n (reads-it .whole)) (λ o. sorts (formSorts (r .form)) refl o))
   where
     other : Bool
     other = otherSorts (map argSort (ℓ .args)) (formSorts (r .form))
@@ -248,16 +244,10 @@ clashes-reads ℓ r s t va f reads-it =
     sorts : (o : Option (List ℕ)) → formSorts (r .form) ≡ o → T (otherSorts (map argSort (ℓ .args)) o) → ⊥
     sorts none e n = n
     sorts (some l) e n =
-        not-both (sameNumbers (map argSort (ℓ .args)) l) n
+        not-e (sameNumbers (map argSort (ℓ .args)) l) n
         (subst (λ (k : List ℕ). T (sameNumbers (map argSort (ℓ .args)) k)) (meant-sorts ∙ form-sorts (r .form) l e va f) (numbers-same (map argSort (ℓ .args))))
 
 -- ── what an exception says of a row, and of a number ──
-
-abbrev sameForm : Form → Form → Bool
-sameForm φ ψ = elim (Form-discrete (Code-discrete Field-discrete) φ ψ) [ yes e ↦ true | no d ↦ false ]
-
-same-form : (φ ψ : Form) → T (sameForm φ ψ) → φ ≡ ψ
-same-form φ ψ t = decided (Form-discrete (Code-discrete Field-discrete) φ ψ) t
 
 unfoldable pub sorted : Row → List Sort → Bool
 sorted r [] = false

@@ -69,6 +69,12 @@ pub struct Decoded {
     pub insn: Insn,
 }
 
+// What encoding a reading gives: 0 and the word, or the refusal number and word 0.
+pub struct Encoded {
+    pub number: u8,
+    pub word: u32,
+}
+
 // An operand, an effect or a target in the numbers that the packed record has for it. They determine it.
 pub struct Parts {
     pub number: u8,

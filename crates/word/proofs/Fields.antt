@@ -1,6 +1,6 @@
 -- A word and its six fields determine each other; how words compare; the immediate and the index as runs of bits.
 -- Assumes nothing.
-use Prim.Native.Nat.{ℕ, _+_, _*_, _%_, _^_, _<_}
+use Prim.Native.Nat.{ℕ, _+_, _*_, _%_, _^_, _≤_, _<_}
 use mathlib.Core.Path.{_≡_, fun-ext}
 use native.Mathlib.Omega.{arith}
 use Rattle.word.specs.Word.{bits, Field, op, rs, rt, rd, sa, fn, Fields, fieldsOf, Fit, word, words}
@@ -58,6 +58,18 @@ field-word f h fn = omega (arith, h op, h rs, h rt, h rd, h sa, h fn)
 
 pub fields-word : (f : Fields) → Fit f → fieldsOf (word f) ≡ f
 fields-word f h = fun-ext (field-word f h)
+
+-- ── how words compare ──
+
+-- a word with no field larger than another's is no larger
+pub word-mono : (f g : Fields) → ((x : Field) → f x ≤ g x) → word f ≤ word g
+unfolding word
+word-mono f g h = omega (arith, h op, h rs, h rt, h rd, h sa, h fn)
+
+-- and so is one with a smaller op
+pub word-op : (f g : Fields) → Fit f → f op < g op → word f ≤ word g
+unfolding word
+word-op f g h l = omega (arith, h rs, h rt, h rd, h sa, h fn)
 
 -- the two runs as the code works them out
 pub imm-low : (w : ℕ) → imm (fieldsOf w) ≡ w % 65536

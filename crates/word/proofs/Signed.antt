@@ -54,7 +54,7 @@ high16 u h l = signed-high 16 refl u h l ∙ ap negsuc (omega arith)
 
 -- ── a multiple of a signed immediate ──
 
-neg-pos : (m : ℕ) → 0 < m → negℤ (pos m) ≡ negsuc (m - 1)
+pub neg-pos : (m : ℕ) → 0 < m → negℤ (pos m) ≡ negsuc (m - 1)
 neg-pos zero h = absurd (omega arith)
 neg-pos (suc m) h = ap negsuc (omega arith)
 

@@ -1,0 +1,206 @@
+-- From operands back to bits: what each operand puts into a word, and that the operands of a word put its own fields back.
+-- Assumes nothing.
+use Prim.Native.Nat.{ℕ, zero, suc, _+_, _*_, _-_, _/_, _%_, _^_, _≤_, _<_}
+use mathlib.Core.Path.{_≡_, refl, sym, _∙_, ap, ap₂}
+use mathlib.Core.Bool.{Bool, true, false, not, cond, _&&_}
+use mathlib.Core.List.{List, [], _∷_}
+use native.Mathlib.Nat.{mod-eq-of-lt}
+use native.Mathlib.Omega.{arith}
+use borrow.Author.Tests.{ltb-true, ltb-false, eqb-true}
+use lib.Dec.{T, eqb, ltb}
+use lib.IntN.{ℤ, pos, negsuc, _*ℤ_}
+use lib.ListN.{length}
+use Rattle.word.specs.Word.{Field, sameField, op, rs, rt, rd, sa, fn, Fields, room, Fit, word}
+use Rattle.word.specs.Numbers.{imm, index, signed, modulo64, branchTo, jumpTo, sizeOf}
+use Rattle.word.proofs.Signed.{neg-pos, low16, high16, branch-is, size-is}
+use Rattle.reading.specs.declared.Op.{Op}
+use Rattle.reading.specs.declared.Op.the-variants.{Reg, FReg, Imm, Mem, Addr, Cop0}
+use Rattle.classes.specs.Row.{Code, reg, freg, cop0, num, size, s16, u16, mem, br, jmp, Form, end, _▸_, posSize, link}
+use Rattle.classes.specs.Meaning.{six, out, outs}
+use Rattle.classes.proofs.Tests.{and-l, and-r, six-at}
+use Rattle.classes.proofs.Uses.{uses, usesForm}
+use Rattle.inverse.proofs.Weigh.{place, weigh, weigh-or, weigh-one, weigh-imm, weigh-index}
+
+-- ── what an operand puts in ──
+
+-- the number in an operand, whatever its kind; and the base of a Mem
+abbrev pub numberOf : Op → ℕ
+numberOf (Reg n) = n
+numberOf (FReg n) = n
+numberOf (Imm z) = modulo64 z
+numberOf (Mem z n) = modulo64 z
+numberOf (Addr a) = a
+numberOf (Cop0 n) = n
+
+abbrev pub baseOf : Op → ℕ
+baseOf (Reg n) = 0
+baseOf (FReg n) = 0
+baseOf (Imm z) = 0
+baseOf (Mem z n) = n
+baseOf (Addr a) = 0
+baseOf (Cop0 n) = 0
+
+-- a register or number in a field
+abbrev pub at : Field → Op → ℕ
+at x o = numberOf o % room x * place x
+
+-- the immediate of a branch at va that goes to t
+unfoldable pub branchBack : ℕ → ℕ → ℕ
+branchBack va t = (t + (2 ^ 64 - (va + 4) % 2 ^ 64)) % 2 ^ 64 / 4 % 2 ^ 16
+
+-- the last bit of `ins`, from its size and its first bit
+abbrev pub lastBit : ℕ → ℕ → ℕ
+lastBit n lsb = (n % 32 + lsb + 31) % 32
+
+unfoldable pub part : Code → ℕ → Op → ℕ
+part (reg x) va o = at x o
+part (freg x) va o = at x o
+part (cop0 x) va o = at x o
+part (num x) va o = at x o
+part size va o = lastBit (numberOf o) 0 * 2 ^ 11
+part s16 va o = numberOf o % 2 ^ 16
+part u16 va o = numberOf o % 2 ^ 16
+part mem va o = baseOf o % 2 ^ 5 * 2 ^ 21 + numberOf o % 2 ^ 16
+part br va o = branchBack va (numberOf o)
+part jmp va o = numberOf o / 4 % 2 ^ 26
+
+abbrev pub one-less : ℕ → ℕ
+one-less zero = zero
+one-less (suc n) = n
+
+-- how many operands there are, and each by its place
+unfoldable pub filled : Form → ℕ → ℕ → (ℕ → Op) → ℕ
+filled end va n o = 0
+filled (c ▸ φ) va n o = part c va (o 0) + filled φ va (one-less n) (λ k. o (suc k))
+filled posSize va n o = at sa (o 0) + lastBit (numberOf (o 1)) (numberOf (o 0) % 2 ^ 5) * 2 ^ 11
+filled link va n o = cond (eqb n 1) (at rs (o 0) + 31 * 2 ^ 11) (at rd (o 0) + at rs (o 1))
+
+-- the operand at a place; register 0 where there is none
+abbrev pub nth : List Op → ℕ → Op
+nth [] n = Reg 0
+nth (o ∷ os) zero = o
+nth (o ∷ os) (suc n) = nth os n
+
+-- ── numbers come back ──
+
+signed-back : (u : ℕ) → u < 65536 → modulo64 (signed 16 u) % 2 ^ 16 ≡ u
+signed-back u h = go (ltb u 32768) refl
+  where
+    go : (b : Bool) → ltb u 32768 ≡ b → modulo64 (signed 16 u) % 2 ^ 16 ≡ u
+    go true e = ap (λ (z : ℤ). modulo64 z % 2 ^ 16) (low16 u (ltb-true u 32768 e)) ∙ omega (arith, ltb-true u 32768 e)
+    go false e = ap (λ (z : ℤ). modulo64 z % 2 ^ 16) (high16 u (ltb-false u 32768 e) h) ∙ omega (arith, ltb-false u 32768 e)
+
+-- four times a signed immediate, modulo 2^64
+offset-low : (u : ℕ) → u < 32768 → modulo64 (pos 4 *ℤ signed 16 u) ≡ 4 * u
+offset-low u h = ap (λ (z : ℤ). modulo64 (pos 4 *ℤ z)) (low16 u h) ∙ omega arith
+
+offset-high : (u : ℕ) → 32768 ≤ u → u < 65536 → modulo64 (pos 4 *ℤ signed 16 u) ≡ 2 ^ 64 - 4 * (65536 - u)
+offset-high u h l =
+    ap (λ (z : ℤ). modulo64 (pos 4 *ℤ z)) (high16 u h l)
+    ∙ (ap modulo64 (neg-pos (4 * suc (65535 - u)) (omega arith)) ∙ omega arith)
+
+branch-back : (va u : ℕ) → u < 65536 → branchBack va (branchTo va u) ≡ u
+unfolding branchBack
+branch-back va u h = ap (λ (t : ℕ). (t + (2 ^ 64 - (va + 4) % 2 ^ 64)) % 2 ^ 64 / 4 % 2 ^ 16) (branch-is va u) ∙ go (ltb u 32768) refl
+  where
+    go : (b : Bool) → ltb u 32768 ≡ b →
+        (((va + 4) % 2 ^ 64 + modulo64 (pos 4 *ℤ signed 16 u)) % 2 ^ 64 + (2 ^ 64 - (va + 4) % 2 ^ 64)) % 2 ^ 64 / 4 % 2 ^ 16 ≡ u
+    go true e = omega (arith, ltb-true u 32768 e, offset-low u (ltb-true u 32768 e))
+    go false e = omega (arith, ltb-false u 32768 e, offset-high u (ltb-false u 32768 e) h)
+
+jump-back : (va i : ℕ) → i < 67108864 → jumpTo va i / 4 % 2 ^ 26 ≡ i
+unfolding jumpTo
+jump-back va i h = omega arith
+
+ins-back : (msb lsb : ℕ) → msb < 32 → lsb < 32 → lastBit (modulo64 (sizeOf msb lsb)) lsb ≡ msb
+ins-back msb lsb h l = ap (λ (z : ℤ). (modulo64 z % 32 + lsb + 31) % 32) (size-is msb lsb) ∙ go (ltb (msb + 1) lsb) refl
+  where
+    go : (b : Bool) → ltb (msb + 1) lsb ≡ b → (modulo64 (cond b (negsuc (lsb - suc (msb + 1))) (pos (msb + 1 - lsb))) % 32 + lsb + 31) % 32 ≡ msb
+    go true e = omega (arith, ltb-true (msb + 1) lsb e)
+    go false e = omega (arith, ltb-false (msb + 1) lsb e)
+
+-- ── a word's operands put its fields back ──
+
+pub imm-lt : (f : Fields) → Fit f → imm f < 65536
+unfolding imm
+imm-lt f h = omega (arith, h rd, h sa, h fn)
+
+index-lt : (f : Fields) → Fit f → index f < 67108864
+unfolding index
+index-lt f h = omega (arith, h rs, h rt, h rd, h sa, h fn)
+
+field-lt : (f : Fields) → Fit f → (x : Field) → f x < 2 ^ 64
+field-lt f h op = omega (arith, h op)
+field-lt f h rs = omega (arith, h rs)
+field-lt f h rt = omega (arith, h rt)
+field-lt f h rd = omega (arith, h rd)
+field-lt f h sa = omega (arith, h sa)
+field-lt f h fn = omega (arith, h fn)
+
+one-back : (x : Field) (f : Fields) → Fit f → f x % room x * place x ≡ weigh (sameField x) f
+one-back x f h = ap (λ (n : ℕ). n * place x) (mod-eq-of-lt (h x)) ∙ sym (weigh-one x f)
+
+imm-back : (f : Fields) (n : ℕ) → n ≡ imm f → n ≡ weigh (uses s16) f
+unfolding uses
+imm-back f n e = e ∙ sym (weigh-imm f)
+
+mem-back : (f : Fields) → Fit f → weigh (uses mem) f ≡ f rs * 2 ^ 21 + imm f
+unfolding uses
+mem-back f h = weigh-or (sameField rs) (uses s16) f apart-mem ∙ omega (arith, weigh-one rs f, weigh-imm f)
+  where
+    apart-mem : (x : Field) → T (not (sameField rs x && uses s16 x))
+    apart-mem op = tt
+    apart-mem rs = tt
+    apart-mem rt = tt
+    apart-mem rd = tt
+    apart-mem sa = tt
+    apart-mem fn = tt
+
+pub part-law : (c : Code) (va : ℕ) (f : Fields) → Fit f → part c va (out c va f) ≡ weigh (uses c) f
+unfolding part out uses
+part-law (reg x) va f h = one-back x f h
+part-law (freg x) va f h = one-back x f h
+part-law (cop0 x) va f h = one-back x f h
+part-law (num x) va f h = ap (λ (n : ℕ). n % room x * place x) (mod-eq-of-lt (field-lt f h x)) ∙ one-back x f h
+part-law size va f h = omega (arith, h rd, weigh-one rd f)
+part-law s16 va f h = imm-back f _ (signed-back (imm f) (imm-lt f h))
+part-law u16 va f h = imm-back f _ (omega (arith, imm-lt f h))
+part-law mem va f h = omega (arith, h rs, signed-back (imm f) (imm-lt f h), mem-back f h)
+part-law br va f h = imm-back f _ (branch-back va (imm f) (imm-lt f h))
+part-law jmp va f h = jump-back va (index f) (index-lt f h) ∙ sym (weigh-index f)
+
+-- no field is used twice
+unfoldable pub apart : Form → Bool
+apart end = true
+apart (c ▸ φ) = six (λ x. not (uses c x && usesForm φ x)) && apart φ
+apart posSize = true
+apart link = true
+
+last-back : (f : Fields) → Fit f → (s : ℕ) → s ≡ f sa → lastBit (modulo64 (sizeOf (f rd) (f sa))) s ≡ f rd
+last-back f h s e = ap (lastBit (modulo64 (sizeOf (f rd) (f sa)))) e ∙ ins-back (f rd) (f sa) (h rd) (h sa)
+
+weigh-ins : (f : Fields) → weigh (usesForm posSize) f ≡ f rd * 2 ^ 11 + f sa * 2 ^ 6
+unfolding weigh word usesForm
+weigh-ins f = omega arith
+
+weigh-link : (f : Fields) → weigh (usesForm link) f ≡ f rd * 2 ^ 11 + f rs * 2 ^ 21
+unfolding weigh word usesForm
+weigh-link f = omega arith
+
+-- the operands of `jalr`; rd is register 31, or not
+abbrev linked : Bool → Fields → List Op
+linked b f = cond b (Reg (f rs) ∷ []) (Reg (f rd) ∷ Reg (f rs) ∷ [])
+
+pub fill-law : (φ : Form) (va : ℕ) (f : Fields) → Fit f → T (apart φ) → filled φ va (length (outs φ va f)) (nth (outs φ va f)) ≡ weigh (usesForm φ) f
+unfolding filled outs usesForm apart
+fill-law end va f h t = unfold weigh word in refl
+fill-law (c ▸ φ) va f h t =
+    ap₂ _+_ (part-law c va f h) (fill-law φ va f h (and-r (six (λ x. not (uses c x && usesForm φ x))) (apart φ) t))
+    ∙ sym (weigh-or (uses c) (usesForm φ) f (six-at (λ x. not (uses c x && usesForm φ x)) (and-l (six (λ x. not (uses c x && usesForm φ x))) (apart φ) t)))
+fill-law posSize va f h t = omega (arith, h sa, last-back f h (f sa % 2 ^ 64 % 2 ^ 5) (omega (arith, h sa)), weigh-ins f)
+fill-law link va f h t = go (eqb (f rd) 31) refl
+  where
+    go : (b : Bool) → eqb (f rd) 31 ≡ b →
+        filled link va (length (linked b f)) (nth (linked b f)) ≡ weigh (usesForm link) f
+    go true e = omega (arith, h rs, eqb-true (f rd) 31 e, weigh-link f)
+    go false e = omega (arith, h rs, h rd, weigh-link f)

@@ -1,0 +1,134 @@
+-- THE TEST that a table of classes and an acceptance table pass for demand 3: each word is in one row or is refused, each row is well
+-- made, and rows of one mnemonic are twins whose words stand in order. All that the laws need of the tables is here.
+-- Assumes nothing.
+use Prim.Native.Nat.{ℕ, suc}
+use mathlib.Core.Bool.{Bool, true, false, not, _&&_, _||_}
+use mathlib.Core.List.{List, [], _∷_}
+use native.Mathlib.Decide.{ℕ-discrete}
+use lib.Dec.{eqb, ltb, leb}
+use lib.IntN.{ℤ, pos, negsuc}
+use Rattle.word.specs.Word.{Field, Fields, room}
+use Rattle.reading.specs.Kind as kind
+use Rattle.classes.specs.Row.{Pat, is, read, readBut, skip, skipBut, low, Form, end, _▸_, posSize, link, Row, patOf}
+use Rattle.classes.specs.Row.{Control, Control-discrete, Change, Change-discrete}
+use Rattle.classes.specs.Meaning.{match, six}
+use Rattle.classes.specs.Table.{rt-imm, rt-uimm}
+use Rattle.classes.specs.Refusals.{elem, Refusal}
+use Rattle.classes.proofs.Tests.{sameForm}
+use Rattle.classes.proofs.Boxes.{exact}
+use Rattle.classes.proofs.Accepts.{numbered}
+use Rattle.classes.proofs.Find.{every}
+use Rattle.classes.proofs.Uses.{isRead, madeOfRead}
+use Rattle.inverse.specs.Same.{groups}
+use Rattle.inverse.proofs.Fill.{apart}
+
+-- ── one row ──
+
+-- the smallest value for a field that is not read, and 0 for one that is
+unfoldable pub least : Pat → ℕ
+least (is v) = v
+least read = 0
+least (readBut v) = 0
+least (skip y) = 0
+least (skipBut v) = 0
+least (low v) = v
+
+-- the row's word with nothing put in
+abbrev pub base : Row → Fields
+base r x = least (patOf r x)
+
+-- the field can have that value
+unfoldable pub leastIn : Row → Field → Bool
+leastIn r x = (isRead (patOf r x) || match (patOf r x) (base r x)) && ltb (base r x) (room x)
+
+abbrev pub isZero : Pat → Bool
+isZero (is v) = eqb v 0
+isZero read = false
+isZero (readBut v) = false
+isZero (skip y) = false
+isZero (skipBut v) = false
+isZero (low v) = false
+
+abbrev pub isFree : Pat → Bool
+isFree (is v) = false
+isFree read = false
+isFree (readBut v) = false
+isFree (skip y) = true
+isFree (skipBut v) = false
+isFree (low v) = false
+
+-- a row that leaves words 0 and 0x40 out can do without them: rs is free
+unfoldable pub nopsIn : Row → Bool
+nopsIn r =
+    not (r .nops)
+    || (isZero (r .pop) && (isZero (r .pfn) && (isFree (r .prs) && (isRead (r .prt) && (isRead (r .prd) && isRead (r .psa))))))
+
+-- the most operands that a form has
+unfoldable pub operandsIn : Form → ℕ
+operandsIn end = 0
+operandsIn (c ▸ φ) = suc (operandsIn φ)
+operandsIn posSize = 2
+operandsIn link = 2
+
+unfoldable pub sound : Row → Bool
+sound r = madeOfRead r && (six (leastIn r) && (nopsIn r && (apart (r .form) && leb (operandsIn (r .form)) 4)))
+
+-- ── two rows of one mnemonic ──
+
+-- the values that an immediate has, signed and not
+abbrev pub inSigned : ℤ → Bool
+inSigned (pos n) = ltb n 32768
+inSigned (negsuc n) = ltb n 32768
+
+abbrev pub inUnsigned : ℤ → Bool
+inUnsigned (pos n) = ltb n 65536
+inUnsigned (negsuc n) = false
+
+-- can a row with this form have this value as its second operand?
+unfoldable pub holds : Form → ℤ → Bool
+holds φ z = (not (sameForm φ rt-imm) || inSigned z) && (not (sameForm φ rt-uimm) || inUnsigned z)
+
+-- asked of `li` alone, which has rows of both forms
+unfoldable pub suits : Row → ℤ → Bool
+suits r z = not (eqb (r .kind) kind.li) || holds (r .form) z
+
+unfoldable pub sameOperands : Row → Row → Bool
+sameOperands h r =
+    sameForm (h .form) (r .form)
+    || (eqb (h .kind) kind.li
+    && ((sameForm (h .form) rt-imm && sameForm (r .form) rt-uimm) || (sameForm (h .form) rt-uimm && sameForm (r .form) rt-imm)))
+
+abbrev pub sameControl : Control → Control → Bool
+sameControl a b = elim (Control-discrete a b) [ yes e ↦ true | no n ↦ false ]
+
+abbrev pub sameChange : Change → Change → Bool
+sameChange a b = elim (Change-discrete ℕ-discrete a b) [ yes e ↦ true | no n ↦ false ]
+
+-- what is read may be anything
+abbrev pub isPlain : Pat → Bool
+isPlain (is v) = true
+isPlain read = true
+isPlain (readBut v) = false
+isPlain (skip y) = true
+isPlain (skipBut v) = true
+isPlain (low v) = true
+
+-- h's words are no larger than r's with the same operands: op is smaller, or no field is larger
+unfoldable pub before : Row → Row → Bool
+before h r = (not (isRead (h .pop)) && ltb (least (h .pop)) (least (r .pop))) || six (λ x. leb (base h x) (base r x))
+
+unfoldable pub twin : Row → Row → Bool
+twin h r =
+    elem (r .kind) groups
+    && (sameControl (h .control) (r .control)
+    && (sameChange (h .change) (r .change) && (not (h .nops) && (sameOperands h r && (six (λ x. isPlain (patOf h x)) && before h r)))))
+
+-- ── the tables ──
+
+-- a row's mnemonic is that of no later row but of its twins
+unfoldable pub paired : List Row → Bool
+paired [] = true
+paired (h ∷ ts) = every (λ r. not (eqb (h .kind) (r .kind)) || twin h r) ts && paired ts
+
+unfoldable pub good : List Row → List Refusal → Bool
+good ts es = exact ts es && (numbered es && (every sound ts && paired ts))

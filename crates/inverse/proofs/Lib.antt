@@ -1,0 +1,11 @@
+pub mod Weigh
+pub mod Fill
+pub mod Good
+pub mod Computed
+pub mod Rows
+pub mod Twins
+pub mod Tables
+pub mod Decide
+pub mod Smallest
+pub mod Same
+pub mod Proved

@@ -1,0 +1,410 @@
+-- The smallest word of one row: the operands of any of its words give a word of the row with these operands that is no larger.
+-- Assumes nothing.
+use Prim.Native.Nat.{ℕ, _+_, _*_, _%_, _^_, _<_, _≤_, zero-le}
+use mathlib.Core.Path.{_≡_, refl, sym, _∙_, ap, subst, fun-ext}
+use mathlib.Core.Bool.{Bool, true, false, not, cond, _&&_, _||_, Bool·beq}
+use mathlib.Core.List.{List}
+use mathlib.Core.Logic.{⊎-elim}
+use native.Mathlib.Nat.{le-refl, le-of-eq}
+use native.Mathlib.Omega.{arith}
+use borrow.Author.Tests.{eqb-true, eqb-false, eq-eqb, le-leb}
+use lib.Dec.{T, eqb, ltb, leb, eqb→eq, leb→le, ltb→lt}
+use lib.ListN.{length}
+use Rattle.word.specs.Word.{Field, op, rs, rt, rd, sa, fn, Fields, room, Fit, word}
+use Rattle.word.proofs.Fields.{word-mono}
+use Rattle.reading.specs.declared.Op.{Op}
+use Rattle.classes.specs.Row.{Pat, is, read, readBut, skip, skipBut, low, Row, patOf}
+use Rattle.classes.specs.Meaning.{match, six, nopLike, takes, outs}
+use Rattle.classes.proofs.Tests.{and-l, and-r, and-i, or-l, or-r, or-e, not-e, not-i, at-true, at-false, six-at, six-make, beq-same}
+use Rattle.classes.proofs.Uses.{usesForm, isRead, madeOfRead, outs-same}
+use Rattle.inverse.proofs.Weigh.{weigh, word-mixed}
+use Rattle.inverse.proofs.Fill.{filled, nth, apart, fill-law}
+use Rattle.inverse.proofs.Good.{least, base, leastIn, isZero, isFree, nopsIn, operandsIn, sound}
+
+-- ── what a row takes ──
+
+-- either way of a choice
+pub chosen : (b : Bool) (P : ℕ → Type 0) (m n : ℕ) → (T b → P m) → (¬ T b → P n) → P (cond b m n)
+chosen true P m n yes-case no-case = yes-case tt
+chosen false P m n yes-case no-case = no-case (λ t. t)
+
+module _ (r : Row) (f : Fields) where
+  abbrev asked : Bool
+  asked = six (λ x. match (patOf r x) (f x))
+
+  pub takes-at : T (takes r f) → (x : Field) → T (match (patOf r x) (f x))
+  unfolding takes
+  takes-at t = six-at (λ x. match (patOf r x) (f x)) (and-l asked (not (r .nops && nopLike f)) t)
+
+  pub takes-nop : T (takes r f) → T (r .nops) → ¬ T (nopLike f)
+  unfolding takes
+  takes-nop t n l = not-e (r .nops && nopLike f) (and-r asked (not (r .nops && nopLike f)) t) (and-i (r .nops) (nopLike f) n l)
+
+  pub takes-make : ((x : Field) → T (match (patOf r x) (f x))) → T (not (r .nops && nopLike f)) → T (takes r f)
+  unfolding takes
+  takes-make h n = and-i asked (not (r .nops && nopLike f)) (six-make (λ x. match (patOf r x) (f x)) h) n
+
+pub least-le : (p : Pat) (a : ℕ) → T (match p a) → least p ≤ a
+unfolding match least
+least-le (is v) a t = le-of-eq (sym (eqb→eq a v t))
+least-le read a t = zero-le
+least-le (readBut v) a t = zero-le
+least-le (skip y) a t = zero-le
+least-le (skipBut v) a t = zero-le
+least-le (low v) a t = omega (arith, eqb→eq (a % 4) v t)
+
+least-read : (p : Pat) → T (isRead p) → least p ≡ 0
+unfolding isRead least
+least-read (is v) t = absurd t
+least-read read t = refl
+least-read (readBut v) t = refl
+least-read (skip y) t = absurd t
+least-read (skipBut v) t = absurd t
+least-read (low v) t = absurd t
+
+-- ── what the test says of a row ──
+
+pub record Sound (r : Row) : Type 0 where
+  pub made : usesForm (r .form) ≡ (λ x. isRead (patOf r x))
+  pub fits : (x : Field) → base r x < room x
+  pub allowed : (x : Field) → ¬ T (isRead (patOf r x)) → T (match (patOf r x) (base r x))
+  pub nops : T (nopsIn r)
+  pub apart : T (apart (r .form))
+  pub four : operandsIn (r .form) ≤ 4
+
+pub sound-row : (r : Row) → T (sound r) → Sound r
+unfolding sound
+sound-row r t =
+    record {
+      made = fun-ext (λ x. beq-same (usesForm (r .form) x) (isRead (patOf r x)) (made x));
+      fits = λ x. ltb→lt (base r x) (room x) (and-r (free x) (ltb (base r x) (room x)) (both x));
+      allowed = λ x n. ⊎-elim (λ u. absurd (n u)) (λ u. u) (or-e (isRead (patOf r x)) (match (patOf r x) (base r x)) (and-l (free x) _ (both x)));
+      nops = and-l (nopsIn r) _ t₂;
+      apart = and-l (apart (r .form)) _ t₃;
+      four = leb→le (operandsIn (r .form)) 4 (and-r (apart (r .form)) (leb (operandsIn (r .form)) 4) t₃);
+    }
+  where
+    t₁ : T (six (leastIn r) && (nopsIn r && (apart (r .form) && leb (operandsIn (r .form)) 4)))
+    t₁ = and-r (madeOfRead r) _ t
+
+    t₂ : T (nopsIn r && (apart (r .form) && leb (operandsIn (r .form)) 4))
+    t₂ = and-r (six (leastIn r)) _ t₁
+
+    t₃ : T (apart (r .form) && leb (operandsIn (r .form)) 4)
+    t₃ = and-r (nopsIn r) _ t₂
+
+    made : (x : Field) → T (Bool·beq (usesForm (r .form) x) (isRead (patOf r x)))
+    made = six-at (λ y. Bool·beq (usesForm (r .form) y) (isRead (patOf r y))) (unfold madeOfRead in and-l (madeOfRead r) _ t)
+
+    free : Field → Bool
+    free x = isRead (patOf r x) || match (patOf r x) (base r x)
+
+    both : (x : Field) → T (free x && ltb (base r x) (room x))
+    both x = unfold leastIn in six-at (leastIn r) (and-l (six (leastIn r)) _ t₁) x
+
+-- ── the word that operands give ──
+
+-- words 0 and 0x40 are left out by some rows: rs is 1 then
+abbrev pub isNop : ℕ → Bool
+isNop w = eqb w 0 || eqb w 64
+
+unfoldable pub afterNops : Bool → ℕ → ℕ
+afterNops nops w = cond (nops && isNop w) (w + 2 ^ 21) w
+
+-- the row's word for so many operands
+unfoldable pub candidate : Row → ℕ → ℕ → (ℕ → Op) → ℕ
+candidate r va n o = afterNops (r .nops) (word (base r) + filled (r .form) va n o)
+
+-- w is a word of row h with the operands os, no larger than f's
+pub record Within (h : Row) (va : ℕ) (os : List Op) (f : Fields) (w : ℕ) : Type 0 where
+  pub fields : Fields
+  pub are : w ≡ word fields
+  pub fit : Fit fields
+  pub taken : T (takes h fields)
+  pub operands : outs (h .form) va fields ≡ os
+  pub le : w ≤ word f
+
+-- f's values in the fields that the row reads, and the least in the others
+unfoldable pub lift : Row → Fields → Fields
+lift r f x = cond (isRead (patOf r x)) (f x) (base r x)
+
+module _ (r : Row) (ok : Sound r) (f : Fields) where
+  pub lift-read : (x : Field) → T (isRead (patOf r x)) → lift r f x ≡ f x
+  unfolding lift
+  lift-read x t = go (isRead (patOf r x)) t
+    where
+      go : (b : Bool) → T b → cond b (f x) (base r x) ≡ f x
+      go true u = refl
+      go false u = absurd u
+
+  pub lift-unread : (x : Field) → ¬ T (isRead (patOf r x)) → lift r f x ≡ base r x
+  unfolding lift
+  lift-unread x n = go (isRead (patOf r x)) n
+    where
+      go : (b : Bool) → ¬ T b → cond b (f x) (base r x) ≡ base r x
+      go true m = absurd (m tt)
+      go false m = refl
+
+  pub lift-match : ((x : Field) → T (isRead (patOf r x)) → T (match (patOf r x) (f x))) → (x : Field) → T (match (patOf r x) (lift r f x))
+  unfolding lift
+  lift-match h x = chosen (isRead (patOf r x)) (λ n. T (match (patOf r x) n)) (f x) (base r x) (h x) (ok .allowed x)
+
+  pub lift-le : (x : Field) → base r x ≤ f x → lift r f x ≤ f x
+  unfolding lift
+  lift-le x l = chosen (isRead (patOf r x)) (λ n. n ≤ f x) (f x) (base r x) (λ t. le-refl (f x)) (λ n. l)
+
+  pub lift-fit : Fit f → Fit (lift r f)
+  unfolding lift
+  lift-fit h x = chosen (isRead (patOf r x)) (λ n. n < room x) (f x) (base r x) (λ t. h x) (λ n. ok .fits x)
+
+  -- what the operands are made of is what is read
+  pub same-read : (va : ℕ) (g : Fields) → ((x : Field) → T (isRead (patOf r x)) → g x ≡ f x) → outs (r .form) va g ≡ outs (r .form) va f
+  same-read va g h = outs-same g f (r .form) va (λ x t. h x (subst (λ (p : Field → Bool). T (p x)) (ok .made) t))
+
+  -- the operands of f, put into the row's word with nothing in it
+  pub lift-word : (va : ℕ) → Fit f → word (base r) + filled (r .form) va (length (outs (r .form) va f)) (nth (outs (r .form) va f)) ≡ word (lift r f)
+  unfolding lift
+  lift-word va h =
+      ap (λ (n : ℕ). word (base r) + n) (fill-law (r .form) va f h (ok .apart) ∙ ap (λ (p : Field → Bool). weigh p f) (ok .made))
+      ∙ sym (word-mixed (λ x. isRead (patOf r x)) f (base r) (λ x t. least-read (patOf r x) t))
+
+-- ── a row that leaves words 0 and 0x40 out ──
+
+pub record Nops (r : Row) : Type 0 where
+  pub zero-op : base r op ≡ 0
+  pub op-unread : ¬ T (isRead (r .pop))
+  pub zero-fn : base r fn ≡ 0
+  pub fn-unread : ¬ T (isRead (r .pfn))
+  pub any-rs : T (match (r .prs) 1)
+  pub zero-rs : base r rs ≡ 0
+  pub rs-unread : ¬ T (isRead (r .prs))
+  pub rt-read : T (isRead (r .prt))
+  pub rd-read : T (isRead (r .prd))
+  pub sa-read : T (isRead (r .psa))
+
+zero-is : (p : Pat) → T (isZero p) → (least p ≡ 0) × (¬ T (isRead p))
+unfolding least isRead
+zero-is (is v) t = (eqb→eq v 0 t, λ u. u)
+zero-is read t = absurd t
+zero-is (readBut v) t = absurd t
+zero-is (skip y) t = absurd t
+zero-is (skipBut v) t = absurd t
+zero-is (low v) t = absurd t
+
+free-is : (p : Pat) → T (isFree p) → T (match p 1) × (least p ≡ 0) × (¬ T (isRead p))
+unfolding match least isRead
+free-is (is v) t = absurd t
+free-is read t = absurd t
+free-is (readBut v) t = absurd t
+free-is (skip y) t = (tt, refl, λ u. u)
+free-is (skipBut v) t = absurd t
+free-is (low v) t = absurd t
+
+nops-row : (r : Row) → T (nopsIn r) → T (r .nops) → Nops r
+unfolding nopsIn
+nops-row r t n =
+    record {
+      zero-op = (zero-is (r .pop) (and-l (isZero (r .pop)) _ t₁)) .0;
+      op-unread = (zero-is (r .pop) (and-l (isZero (r .pop)) _ t₁)) .1;
+      zero-fn = (zero-is (r .pfn) (and-l (isZero (r .pfn)) _ t₂)) .0;
+      fn-unread = (zero-is (r .pfn) (and-l (isZero (r .pfn)) _ t₂)) .1;
+      any-rs = (free-is (r .prs) (and-l (isFree (r .prs)) _ t₃)) .0;
+      zero-rs = (free-is (r .prs) (and-l (isFree (r .prs)) _ t₃)) .1;
+      rs-unread = (free-is (r .prs) (and-l (isFree (r .prs)) _ t₃)) .2;
+      rt-read = and-l (isRead (r .prt)) _ t₄;
+      rd-read = and-l (isRead (r .prd)) (isRead (r .psa)) t₅;
+      sa-read = and-r (isRead (r .prd)) (isRead (r .psa)) t₅;
+    }
+  where
+    t₁ : T (isZero (r .pop) && (isZero (r .pfn) && (isFree (r .prs) && (isRead (r .prt) && (isRead (r .prd) && isRead (r .psa))))))
+    t₁ = ⊎-elim (λ u. absurd (not-e (r .nops) u n)) (λ u. u) (or-e (not (r .nops)) _ t)
+
+    t₂ : T (isZero (r .pfn) && (isFree (r .prs) && (isRead (r .prt) && (isRead (r .prd) && isRead (r .psa)))))
+    t₂ = and-r (isZero (r .pop)) _ t₁
+
+    t₃ : T (isFree (r .prs) && (isRead (r .prt) && (isRead (r .prd) && isRead (r .psa))))
+    t₃ = and-r (isZero (r .pfn)) _ t₂
+
+    t₄ : T (isRead (r .prt) && (isRead (r .prd) && isRead (r .psa)))
+    t₄ = and-r (isFree (r .prs)) _ t₃
+
+    t₅ : T (isRead (r .prd) && isRead (r .psa))
+    t₅ = and-r (isRead (r .prt)) _ t₄
+
+-- the same fields with rs 1
+abbrev raised : Fields → Fields
+raised g op = g op
+raised g rs = 1
+raised g rt = g rt
+raised g rd = g rd
+raised g sa = g sa
+raised g fn = g fn
+
+raised-word : (g : Fields) → g rs ≡ 0 → word g + 2 ^ 21 ≡ word (raised g)
+unfolding word
+raised-word g e = omega arith
+
+-- what such a word's fields are
+nop-fields : (g : Fields) → T (isNop (word g)) → (g rt ≡ 0) × (g rd ≡ 0) × (g sa ≤ 1)
+unfolding word
+nop-fields g t = (omega (arith, small), omega (arith, small), omega (arith, small))
+  where
+    small : word g ≤ 64
+    small = ⊎-elim (λ u. omega (arith, eqb→eq (word g) 0 u)) (λ u. omega (arith, eqb→eq (word g) 64 u)) (or-e (eqb (word g) 0) (eqb (word g) 64) t)
+
+-- and a word with such fields
+like-nop : (g : Fields) → g rs ≡ 0 → g rt ≡ 0 → g rd ≡ 0 → g sa ≤ 1 → T (nopLike g)
+unfolding nopLike
+like-nop g a b c d =
+    and-i (eqb (g rs) 0) _ (at-true (eq-eqb (g rs) 0 a))
+    (and-i (eqb (g rt) 0) _ (at-true (eq-eqb (g rt) 0 b))
+    (and-i (eqb (g rd) 0) (leb (g sa) 1) (at-true (eq-eqb (g rd) 0 c)) (at-true (le-leb (g sa) 1 d))))
+
+-- if op and funct are 0
+nop-word : (g : Fields) → g op ≡ 0 → g fn ≡ 0 → T (nopLike g) → T (isNop (word g))
+unfolding nopLike word
+nop-word g a b t = go (eqb (g sa) 0) refl
+  where
+    t₁ : T (eqb (g rt) 0 && (eqb (g rd) 0 && leb (g sa) 1))
+    t₁ = and-r (eqb (g rs) 0) _ t
+
+    t₂ : T (eqb (g rd) 0 && leb (g sa) 1)
+    t₂ = and-r (eqb (g rt) 0) _ t₁
+
+    zero-rs : g rs ≡ 0
+    zero-rs = eqb→eq (g rs) 0 (and-l (eqb (g rs) 0) _ t)
+
+    zero-rt : g rt ≡ 0
+    zero-rt = eqb→eq (g rt) 0 (and-l (eqb (g rt) 0) _ t₁)
+
+    zero-rd : g rd ≡ 0
+    zero-rd = eqb→eq (g rd) 0 (and-l (eqb (g rd) 0) _ t₂)
+
+    e : word g ≡ g sa * 2 ^ 6
+    e = omega (arith, zero-rs, zero-rt, zero-rd)
+
+    go : (s : Bool) → eqb (g sa) 0 ≡ s → T (isNop (word g))
+    go true q = or-l (eqb (word g) 0) (eqb (word g) 64) (at-true (eq-eqb (word g) 0 (omega (arith, e, eqb-true (g sa) 0 q))))
+    go false q =
+        or-r (eqb (word g) 0) (eqb (word g) 64)
+        (at-true (eq-eqb (word g) 64 (omega (arith, e, eqb-false (g sa) 0 q, leb→le (g sa) 1 (and-r (eqb (g rd) 0) (leb (g sa) 1) t₂)))))
+
+-- ── a word's own row ──
+
+module _ (r : Row) (ok : Sound r) (va : ℕ) (f : Fields) (fit : Fit f) (t : T (takes r f)) where
+  abbrev g : Fields
+  g = lift r f
+
+  abbrev Good : ℕ → Type 0
+  Good = Within r va (outs (r .form) va f) f
+
+  le-at : (x : Field) → g x ≤ f x
+  le-at x = lift-le r ok f x (least-le (patOf r x) (f x) (takes-at r f t x))
+
+  match-at : (x : Field) → T (match (patOf r x) (g x))
+  match-at = lift-match r ok f (λ y u. takes-at r f t y)
+
+  not-nop : ¬ T (r .nops && isNop (word g)) → ¬ T (r .nops && nopLike g)
+  not-nop n u = n (and-i (r .nops) (isNop (word g)) nops (nop-word g zero-op zero-fn (and-r (r .nops) (nopLike g) u)))
+    where
+      nops : T (r .nops)
+      nops = and-l (r .nops) (nopLike g) u
+
+      at : Nops r
+      at = nops-row r (ok .nops) nops
+
+      zero-op : g op ≡ 0
+      zero-op = lift-unread r ok f op (at .op-unread) ∙ at .zero-op
+
+      zero-fn : g fn ≡ 0
+      zero-fn = lift-unread r ok f fn (at .fn-unread) ∙ at .zero-fn
+
+  own-plain : ¬ T (r .nops && isNop (word g)) → Good (word g)
+  own-plain n =
+      record {
+        fields = g;
+        are = refl;
+        fit = lift-fit r ok f fit;
+        taken = takes-make r g match-at (not-i (r .nops && nopLike g) (not-nop n));
+        operands = same-read r ok f va g (lift-read r ok f);
+        le = word-mono g f le-at;
+      }
+
+  -- where it would be word 0 or 0x40
+  module _ (nops : T (r .nops)) (is : T (isNop (word g))) where
+    at : Nops r
+    at = nops-row r (ok .nops) nops
+
+    rs-zero : g rs ≡ 0
+    rs-zero = lift-unread r ok f rs (at .rs-unread) ∙ at .zero-rs
+
+    -- f is such a word too, but for rs
+    rs-some : 1 ≤ f rs
+    rs-some = let n : ¬ (f rs ≡ 0) = (λ e. takes-nop r f t nops (like-nop f e rt-zero rd-zero sa-small)) in omega arith
+      where
+        zeros : (g rt ≡ 0) × (g rd ≡ 0) × (g sa ≤ 1)
+        zeros = nop-fields g is
+
+        rt-zero : f rt ≡ 0
+        rt-zero = sym (lift-read r ok f rt (at .rt-read)) ∙ zeros .0
+
+        rd-zero : f rd ≡ 0
+        rd-zero = sym (lift-read r ok f rd (at .rd-read)) ∙ zeros .1
+
+        sa-small : f sa ≤ 1
+        sa-small = subst (λ (n : ℕ). n ≤ 1) (lift-read r ok f sa (at .sa-read)) (zeros .2)
+
+    raised-le : (x : Field) → raised g x ≤ f x
+    raised-le op = le-at op
+    raised-le rs = rs-some
+    raised-le rt = le-at rt
+    raised-le rd = le-at rd
+    raised-le sa = le-at sa
+    raised-le fn = le-at fn
+
+    raised-fit : Fit (raised g)
+    raised-fit op = lift-fit r ok f fit op
+    raised-fit rs = omega arith
+    raised-fit rt = lift-fit r ok f fit rt
+    raised-fit rd = lift-fit r ok f fit rd
+    raised-fit sa = lift-fit r ok f fit sa
+    raised-fit fn = lift-fit r ok f fit fn
+
+    raised-match : (x : Field) → T (match (patOf r x) (raised g x))
+    raised-match op = match-at op
+    raised-match rs = at .any-rs
+    raised-match rt = match-at rt
+    raised-match rd = match-at rd
+    raised-match sa = match-at sa
+    raised-match fn = match-at fn
+
+    raised-read : (x : Field) → T (isRead (patOf r x)) → raised g x ≡ f x
+    raised-read op u = lift-read r ok f op u
+    raised-read rs u = absurd (at .rs-unread u)
+    raised-read rt u = lift-read r ok f rt u
+    raised-read rd u = lift-read r ok f rd u
+    raised-read sa u = lift-read r ok f sa u
+    raised-read fn u = lift-read r ok f fn u
+
+    raised-nop : ¬ T (r .nops && nopLike (raised g))
+    raised-nop u = unfold nopLike in and-r (r .nops) false u
+
+    own-raised : Good (word g + 2 ^ 21)
+    own-raised =
+        record {
+          fields = raised g;
+          are = raised-word g rs-zero;
+          fit = raised-fit;
+          taken = takes-make r (raised g) raised-match (not-i (r .nops && nopLike (raised g)) raised-nop);
+          operands = same-read r ok f va (raised g) raised-read;
+          le = subst (λ (n : ℕ). n ≤ word f) (sym (raised-word g rs-zero)) (word-mono (raised g) f raised-le);
+        }
+
+  -- THE LAW of one row
+  pub own : Good (candidate r va (length (outs (r .form) va f)) (nth (outs (r .form) va f)))
+  unfolding candidate afterNops
+  own = subst (λ (w : ℕ). Good (cond (r .nops && isNop w) (w + 2 ^ 21) w)) (sym (lift-word r ok f va fit)) (go (r .nops && isNop (word g)) refl)
+    where
+      go : (b : Bool) → (r .nops && isNop (word g)) ≡ b → Good (cond b (word g + 2 ^ 21) (word g))
+      go true e = own-raised (and-l (r .nops) (isNop (word g)) (at-true e)) (and-r (r .nops) (isNop (word g)) (at-true e))
+      go false e = own-plain (not-e (r .nops && isNop (word g)) (at-false e))

@@ -1,0 +1,176 @@
+-- Which word a reading gets: the candidate of the reading's row has the reading and is the smallest, if any word has it.
+-- Assumes nothing.
+use Prim.Native.Nat.{ℕ, zero, suc, _+_, _≤_, _<_, zero-le, suc-le-suc}
+use mathlib.Core.Path.{_≡_, refl, sym, _∙_, ap, subst, fun-ext}
+use mathlib.Core.Bool.{Bool, true, false, cond}
+use mathlib.Core.List.{List, [], _∷_}
+use mathlib.Core.Logic.{inl, inr}
+use mathlib.Core.Option.{some}
+use native.Mathlib.Nat.{le-refl, le-trans}
+use native.Mathlib.Omega.{arith}
+use lib.Dec.{T, eqb}
+use lib.ListN.{length, getD}
+use Rattle.word.specs.Word.{Fields, Fit, fieldsOf, word, words, rs, rd}
+use Rattle.word.proofs.Fields.{fields-fit, word-small, word-fields, fields-word}
+use Rattle.reading.specs.declared.Op.{Op}
+use Rattle.reading.specs.declared.Op.the-variants.{Reg}
+use Rattle.reading.specs.declared.Operand.{Operand}
+use Rattle.reading.specs.declared.Insn.{Insn}
+use Rattle.reading.specs.declared.Decoded.{Decoded}
+use Rattle.reading.specs.Reading.{unused}
+use Rattle.classes.specs.Row.{Form, end, _▸_, posSize, link, Row}
+use Rattle.classes.specs.Meaning.{takes, find, outs, intOf, head, tail, slots, reading, meaning}
+use Rattle.classes.specs.Refusals.{Refusal}
+use Rattle.classes.specs.Decoded.{acceptedAs, decodedBy}
+use Rattle.classes.specs.Theorems.{taking}
+use Rattle.classes.proofs.Boxes.{bit, taken-or-refused}
+use Rattle.classes.proofs.Accepts.{one-taking, accepted-by}
+use Rattle.inverse.specs.Encoded.{Has}
+use Rattle.inverse.proofs.Fill.{nth}
+use Rattle.inverse.proofs.Good.{operandsIn, suits}
+use Rattle.inverse.proofs.Rows.{candidate, Sound, Within, own}
+use Rattle.inverse.proofs.Twins.{valueIn, own-suits, twin-within}
+use Rattle.inverse.proofs.Tables.{In, find-in, only-row, pick, Near, Picked, pick-law, Good}
+
+-- the answer for a word at an address, by two tables; decodedOf's, if they are those of the definition
+abbrev pub answerBy : List Row → List Refusal → ℕ → ℕ → Decoded
+answerBy ts es va w = decodedBy ts es va (fieldsOf w)
+
+-- ── the operands of a reading ──
+
+abbrev pub operandAt : List Operand → ℕ → Op
+operandAt xs n = (getD xs n unused) .op
+
+nth-head : (os : List Op) → head os ≡ nth os 0
+nth-head [] = refl
+nth-head (o ∷ os) = refl
+
+nth-tail : (os : List Op) (n : ℕ) → nth (tail os) n ≡ nth os (suc n)
+nth-tail [] n = refl
+nth-tail (o ∷ os) n = refl
+
+nth-past : (os : List Op) (n : ℕ) → length os ≤ n → nth os n ≡ Reg 0
+nth-past [] n h = refl
+nth-past (o ∷ os) zero h = absurd (omega arith)
+nth-past (o ∷ os) (suc n) h = nth-past os n (omega arith)
+
+slot-at : (os : List Op) → length os ≤ 4 → (n : ℕ) → (getD (slots os) n unused) .op ≡ nth os n
+slot-at os h zero = nth-head os
+slot-at os h (suc zero) = nth-head (tail os) ∙ nth-tail os 0
+slot-at os h (suc (suc zero)) = nth-head (tail (tail os)) ∙ (nth-tail (tail os) 0 ∙ nth-tail os 1)
+slot-at os h (suc (suc (suc zero))) = nth-head (tail (tail (tail os))) ∙ (nth-tail (tail (tail os)) 0 ∙ (nth-tail (tail os) 1 ∙ nth-tail os 2))
+slot-at os h (suc (suc (suc (suc n)))) = sym (nth-past os (suc (suc (suc (suc n)))) (omega arith))
+
+outs-length : (φ : Form) (va : ℕ) (f : Fields) → length (outs φ va f) ≤ operandsIn φ
+unfolding outs operandsIn
+outs-length end va f = zero-le
+outs-length (c ▸ φ) va f = suc-le-suc (outs-length φ va f)
+outs-length posSize va f = le-refl 2
+outs-length link va f = go (eqb (f rd) 31)
+  where
+    go : (b : Bool) → length (cond b (Reg (f rs) ∷ []) (Reg (f rd) ∷ Reg (f rs) ∷ [])) ≤ 2
+    go true = omega arith
+    go false = omega arith
+
+pub operands-back : (r : Row) → Sound r → (va : ℕ) (f : Fields) → operandAt ((meaning r va f) .ops) ≡ nth (outs (r .form) va f)
+unfolding meaning reading
+operands-back r ok va f = fun-ext (slot-at (outs (r .form) va f) (le-trans (outs-length (r .form) va f) (ok .four)))
+
+-- ── the row of an accepted word ──
+
+found-of : (ts : List Row) (f : Fields) → 1 ≤ taking ts f → (r : Row) × (find ts f ≡ some r)
+unfolding taking find
+found-of [] f h = absurd (omega arith)
+found-of (s ∷ ts) f h = go (takes s f) h (found-of ts f)
+  where
+    go : (b : Bool) → 1 ≤ bit b + taking ts f → (1 ≤ taking ts f → (r : Row) × (find ts f ≡ some r)) → (r : Row) × (cond b (some s) (find ts f) ≡ some r)
+    go true l rec = (s, refl)
+    go false l rec = rec (omega arith)
+
+module _ (ts : List Row) (es : List Refusal) (ok : Good ts es) (va : ℕ) where
+  pub row-of : (w : ℕ) → (answerBy ts es va w) .number ≡ 0 → (r : Row) × (find ts (fieldsOf w) ≡ some r)
+  unfolding decodedBy
+  row-of w e = found-of ts (fieldsOf w) (omega (arith, one-taking ts es (ok .exact) (fieldsOf w) (fields-fit w) (ok .numbered) e))
+
+  pub answer-is : (w : ℕ) (r : Row) → find ts (fieldsOf w) ≡ some r → answerBy ts es va w ≡ acceptedAs (meaning r va (fieldsOf w))
+  answer-is w r e = accepted-by ts es (ok .exact) (fieldsOf w) (fields-fit w) va r e
+
+  -- a word that is given by its fields
+  given : (h : Row) → In h ts → (g : Fields) → Fit g → T (takes h g) → answerBy ts es va (word g) ≡ acceptedAs (meaning h va g)
+  given h i g fit t =
+      ap (decodedBy ts es va) (fields-word g fit)
+      ∙ accepted-by ts es (ok .exact) g fit va h (only-row ts g (omega (arith, taken-or-refused ts es (ok .exact) g fit)) h i t)
+
+-- ── the candidate ──
+
+-- what an encoder may try for a reading: the candidate of its row, or anything if it has none
+abbrev pub Tries : List Row → ℕ → Insn → ℕ → Type 0
+Tries ts va i c = (h : Row) → pick ts (i .mnemonic) (intOf (operandAt (i .ops) 1)) ≡ some h → c ≡ candidate h va (i .count) (operandAt (i .ops))
+
+pub near-reading : (h r : Row) (os : List Op) → h .kind ≡ r .kind → Near h r →
+    reading (h .kind) (h .control) (h .change) os ≡ reading (r .kind) (r .control) (r .change) os
+near-reading h r os k (inl e) = ap (λ (x : Row). reading (x .kind) (x .control) (x .change) os) e
+near-reading h r os k (inr p) = λ i. reading (k i) (p .control i) (p .change i) os
+
+near-within : (h r : Row) → Sound h → Near h r → (va : ℕ) (f : Fields) → Fit f → T (takes r f) → T (suits h (valueIn (outs (r .form) va f))) →
+    Within h va (outs (r .form) va f) f (candidate h va (length (outs (r .form) va f)) (nth (outs (r .form) va f)))
+near-within h r ok (inl e) va f fit t u =
+    subst (λ (x : Row). Within x va (outs (r .form) va f) f (candidate x va (length (outs (r .form) va f)) (nth (outs (r .form) va f)))) (sym e)
+    (own r (subst Sound e ok) va f fit t)
+near-within h r ok (inr p) va f fit t u = twin-within h r ok p va f fit t u
+
+module _ (ts : List Row) (es : List Refusal) (ok : Good ts es) (va : ℕ) where
+  -- the candidate of the row that is picked for the operands of a word f
+  within-has : (r h : Row) (f : Fields) (c : ℕ) → In h ts → h .kind ≡ r .kind → Near h r → Within h va (outs (r .form) va f) f c →
+      Has (answerBy ts es va) (meaning r va f) c
+  unfolding meaning
+  within-has r h f c i k near s =
+      record {
+        small = subst (λ (n : ℕ). n < words) (sym (s .are)) (word-small (s .fields) (s .fit));
+        reads =
+            ap (answerBy ts es va) (s .are)
+            ∙ (given ts es ok va h i (s .fields) (s .fit) (s .taken)
+            ∙ ap acceptedAs (ap (reading (h .kind) (h .control) (h .change)) (s .operands) ∙ near-reading h r (outs (r .form) va f) k near));
+      }
+
+  of-row : (w : ℕ) → w < words → (r : Row) → find ts (fieldsOf w) ≡ some r → (c : ℕ) → Tries ts va (meaning r va (fieldsOf w)) c →
+      Has (answerBy ts es va) (meaning r va (fieldsOf w)) c × (c ≤ w)
+  unfolding meaning reading
+  of-row w small r e c tries =
+      (within-has r (p .0) (fieldsOf w) c (p .1 .here) (p .1 .kind) (p .1 .near) within, subst (λ (n : ℕ). c ≤ n) (word-fields w small) (within .le))
+    where
+      f : Fields
+      f = fieldsOf w
+
+      os : List Op
+      os = outs (r .form) va f
+
+      i : In r ts × T (takes r f)
+      i = find-in ts f r e
+
+      p : (h : Row) × Picked ts r (valueIn os) h
+      p = pick-law ts (ok .paired) r (i .0) (valueIn os) (own-suits r va f (fields-fit w))
+
+      back : operandAt ((meaning r va f) .ops) ≡ nth os
+      back = operands-back r (ok .rows r (i .0)) va f
+
+      is : c ≡ candidate (p .0) va (length os) (nth os)
+      is =
+          tries (p .0) (ap (λ (o : ℕ → Op). pick ts (r .kind) (intOf (o 1))) back ∙ p .1 .found)
+          ∙ ap (candidate (p .0) va (length os)) back
+
+      within : Within (p .0) va os f c
+      within =
+          subst (Within (p .0) va os f) (sym is)
+          (near-within (p .0) r (ok .rows (p .0) (p .1 .here)) (p .1 .near) va f (fields-fit w) (i .1) (p .1 .suited))
+
+  -- THE LAW: if any word has the reading, what is tried has it and is no larger
+  pub smallest-law : (i : Insn) (c : ℕ) → Tries ts va i c → (w : ℕ) → Has (answerBy ts es va) i w → Has (answerBy ts es va) i c × (c ≤ w)
+  smallest-law i c tries w h =
+      subst (λ (j : Insn). Tries ts va j c → Has (answerBy ts es va) j c × (c ≤ w)) is (of-row w (h .small) (r .0) (r .1) c) tries
+    where
+      r : (r : Row) × (find ts (fieldsOf w) ≡ some r)
+      r = row-of ts es ok va w (ap (λ (d : Decoded). d .number) (h .reads))
+
+      is : meaning (r .0) va (fieldsOf w) ≡ i
+      is = ap (λ (d : Decoded). d .insn) (sym (answer-is ts es ok va w (r .0) (r .1)) ∙ h .reads)

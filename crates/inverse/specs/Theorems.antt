@@ -1,0 +1,35 @@
+-- DEMAND 3, stated over demand 2's definition: when two words have one reading, and which word a reading gets. It is proved of the definition
+-- for every address and width flag, and of any other table of classes and acceptance table that pass one computed test (`law` in
+-- proofs/Proved.antt, `good` in proofs/Good.antt).
+-- Assumes nothing.
+use Prim.Native.Nat.{ℕ, _<_, _≤_}
+use mathlib.Core.Path.{_≡_}
+use mathlib.Core.Bool.{Bool}
+use mathlib.Core.List.{List}
+use mathlib.Core.Logic.{_↔_}
+use Rattle.word.specs.Word.{fieldsOf, words}
+use Rattle.reading.specs.declared.Insn.{Insn}
+use Rattle.reading.specs.declared.Decoded.{Decoded}
+use Rattle.reading.specs.declared.Encoded.{Encoded}
+use Rattle.classes.specs.Row.{Row}
+use Rattle.classes.specs.Table.{table}
+use Rattle.classes.specs.Decoded.{decodedOf}
+use Rattle.inverse.specs.Same.{Alike}
+use Rattle.inverse.specs.Encoded.{Encodes}
+
+abbrev pub Accepted : (ℕ → Decoded) → ℕ → Type 0
+Accepted answer w = (answer w) .number ≡ 0
+
+-- of the answers to all words at an address, by a table of classes
+pub record Demand3 (answer : ℕ → Decoded) (ts : List Row) (va : ℕ) : Type 0 where
+  -- two accepted words have the same reading exactly when they are alike
+  pub same : (w v : ℕ) → Accepted answer w → Accepted answer v → ((answer w) .insn ≡ (answer v) .insn) ↔ Alike ts va (fieldsOf w) (fieldsOf v)
+  -- any reading at all has an answer of the encoder, and only one
+  pub answered : (i : Insn) → (e : Encoded) × Encodes answer i e
+  pub unique : (i : Insn) (d e : Encoded) → Encodes answer i d → Encodes answer i e → d ≡ e
+  -- the reading of an accepted word is encoded to a word with the same answer, no larger than the first
+  pub restored : (w : ℕ) (e : Encoded) → w < words → Accepted answer w → Encodes answer ((answer w) .insn) e →
+      (e .number ≡ 0) × (answer (e .word) ≡ answer w) × (e .word ≤ w)
+
+abbrev pub Theorems : Type 0
+Theorems = (wide : Bool) (va : ℕ) → Demand3 (λ w. decodedOf w va wide) (table wide) va
