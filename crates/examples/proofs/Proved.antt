@@ -1,15 +1,29 @@
 -- What specs/Examples.antt states, computed: a line here for each line of the table there.
 -- Assumes nothing.
-use Prim.Native.Nat.{ℕ}
-use mathlib.Core.Path.{refl}
+use Prim.Native.Nat.{ℕ, _<_}
+use mathlib.Core.Path.{_≡_, refl, subst}
 use mathlib.Core.Bool.{Bool, true, false}
-use Rattle.word.specs.Word.{fieldsOf}
+use mathlib.Core.Option.{some}
+use native.Mathlib.Decide.{ℕ-discrete}
+use native.Mathlib.Omega.{arith}
+use Rattle.word.specs.Word.{fieldsOf, word, words}
 use Rattle.word.specs.Numbers.{imm, index, signed, branchTo, jumpTo, sizeOf}
+use Rattle.reading.specs.declared.Insn.{Insn}
+use Rattle.reading.specs.declared.Decoded.{Decoded}
+use Rattle.reading.specs.Kind as kind
 use Rattle.reading.specs.Kind.{from}
-use Rattle.classes.specs.Meaning.{match, six, nopLike, takes, find, out, outs, markOf, targetIn, reading, meaning}
-use Rattle.classes.specs.Table.{common, byWidth, table}
+use Rattle.classes.specs.Row.{is, read, zeros, plain, jump, nothing, writes, sets, Row}
+use Rattle.classes.specs.Meaning.{match, six, nopLike, takes, find, out, outs, markOf, targetIn, reading, meaning, intOf}
+use Rattle.classes.specs.Table.{rd-rt-sa, offset, rt-imm, row, rowButNops, common, byWidth, table}
 use Rattle.classes.specs.Refusals.{elem, holds, meets, refusal, refusals}
-use Rattle.classes.specs.Decoded.{decodedBy, decodedOf}
+use Rattle.classes.specs.Decoded.{acceptedAs, decodedBy, decodedOf}
+use Rattle.inverse.specs.Encoded.{encodedAs, Encodes}
+use Rattle.inverse.proofs.Fill.{branchBack, part, filled}
+use Rattle.inverse.proofs.Good.{least, holds as holdsIn, suits}
+use Rattle.inverse.proofs.Rows.{afterNops, candidate}
+use Rattle.inverse.proofs.Tables.{pick}
+use Rattle.inverse.proofs.Smallest.{operandAt, Tries}
+use Rattle.inverse.proofs.Proved.{good-of, picked, encoded}
 use Rattle.examples.specs.Examples.{examples, Every, Examples}
 
 -- a line's answer, and the lines after it
@@ -17,20 +31,44 @@ abbrev _⨾_ : {A B : Type 0} → A → B → A × B
 a ⨾ b = (a, b)
 
 infixr 30 _⨾_
+-- ── encoded words ──
+
+-- the row that a reading is encoded in, and the word that it gives
+module _ (wide : Bool) (va : ℕ) (i : Insn) (h : Row) where
+  abbrev there : ℕ → Decoded
+  there w = decodedOf w va wide
+
+  pub by-row : (c : ℕ) → pick (table wide) (i .mnemonic) (intOf (operandAt (i .ops) 1)) ≡ some h → candidate h va (i .count) (operandAt (i .ops)) ≡ c →
+      c < words → there c ≡ acceptedAs i → Encodes there i (encodedAs c)
+  by-row c p e l d =
+      encoded wide va i c (subst (Tries (table wide) va i) e (picked (table wide) refusals (good-of wide) va i h p)) l d
+
+sll-row : Row
+sll-row = rowButNops kind.sll (is 0) zeros read read read (is 0) rd-rt-sa plain writes
+
+b-row : Row
+b-row = row kind.b (is 1) (is 0) (is 1) read read read offset jump nothing
+
+li-row : Row
+li-row = row kind.li (is 9) (is 0) read read read read rt-imm plain sets
+
+-- ── the table ──
+
 pub proved : Examples
 unfolding examples Every decodedOf decodedBy table common byWidth refusals find takes six match nopLike refusal meets holds elem from
-    fieldsOf meaning reading outs out markOf targetIn imm index signed branchTo jumpTo sizeOf
+    fieldsOf meaning reading outs out markOf targetIn imm index signed branchTo jumpTo sizeOf pick suits filled part branchBack candidate afterNops
+    least word sll-row b-row li-row ℕ-discrete holdsIn
 proved =
     (λ va wide. (refl, refl, refl, refl))
-    ⨾ (λ va wide. (refl, refl, refl, refl))
-    ⨾ (λ va wide. (refl, refl, refl, refl))
+    ⨾ (λ va wide. ((refl, refl, refl, refl), by-row wide va _ sll-row 0x00200000 refl refl (omega arith) refl))
+    ⨾ (λ va wide. ((refl, refl, refl, refl), by-row wide va _ sll-row 0x00200000 refl refl (omega arith) refl))
     ⨾ (λ wide. (refl, refl))
     ⨾ (λ wide. (refl, refl))
-    ⨾ (λ wide. (refl, refl, refl, refl))
-    ⨾ (λ wide. (refl, refl, refl, refl))
-    ⨾ (λ va wide. (refl, refl, refl, refl))
-    ⨾ (λ va wide. (refl, refl, refl, refl))
-    ⨾ (λ va wide. (refl, refl, refl, refl))
+    ⨾ (λ wide. ((refl, refl, refl, refl), by-row wide 0x1000 _ b-row 0x0401ffff refl refl (omega arith) refl))
+    ⨾ (λ wide. ((refl, refl, refl, refl), by-row wide 0x1000 _ b-row 0x0401ffff refl refl (omega arith) refl))
+    ⨾ (λ va wide. ((refl, refl, refl, refl), by-row wide va _ li-row 0x24020005 refl refl (omega arith) refl))
+    ⨾ (λ va wide. ((refl, refl, refl, refl), by-row wide va _ li-row 0x24020005 refl refl (omega arith) refl))
+    ⨾ (λ va wide. ((refl, refl, refl, refl), by-row wide va _ li-row 0x24020005 refl refl (omega arith) refl))
     ⨾ (λ va wide. (refl, refl, refl, refl))
     ⨾ (λ va wide. (refl, refl, refl, refl))
     ⨾ (λ va wide. (refl, refl, refl, refl))

@@ -1,5 +1,5 @@
 -- Document 01's examples that are marked P, a line of the table for each word. Where the document has no address the line holds at every
--- address; each holds with and without the width flag. What such a word is encoded to joins as a further column when there is an encoder.
+-- address; each holds with and without the width flag.
 -- Assumes nothing.
 use Prim.Native.Nat.{ℕ}
 use mathlib.Core.Path.{_≡_}
@@ -16,6 +16,7 @@ use Rattle.reading.specs.Reading.{refusedOf}
 use Rattle.reading.specs.Kind as kind
 use Rattle.classes.specs.Meaning.{slots}
 use Rattle.classes.specs.Decoded.{decodedOf}
+use Rattle.inverse.specs.Encoded.{encodedAs, Encodes}
 
 -- ── what an example says ──
 
@@ -26,6 +27,7 @@ pub data Place : Type 0 where
 -- what it says of the answer, and no more than that
 pub data Answer : Type 0 where
   reads : ℕ → List Op → Answer  -- accepted, with this mnemonic and these operands
+  encoded : ℕ → List Op → ℕ → Answer  -- the same, and the reading is encoded to this word
   unmarked : ℕ → List Op → Answer  -- the same, and no mark
   goes : ℕ → Answer  -- accepted, with this target
   refused : ℕ → Answer  -- refused with this number
@@ -33,11 +35,13 @@ pub data Answer : Type 0 where
 abbrev pub Reads : ℕ → List Op → Decoded → Type 0
 Reads k os d = (d .number ≡ 0) × (d .insn .mnemonic ≡ k) × (d .insn .count ≡ length os) × (d .insn .ops ≡ slots os)
 
-abbrev pub Answers : Answer → Decoded → Type 0
-Answers (reads k os) d = Reads k os d
-Answers (unmarked k os) d = Reads k os d × (d .insn .«delay_slot» ≡ false)
-Answers (goes a) d = (d .number ≡ 0) × (d .insn .target ≡ target.At a)
-Answers (refused n) d = d ≡ refusedOf n
+-- of a word, as words are answered somewhere
+abbrev pub Answers : Answer → (ℕ → Decoded) → ℕ → Type 0
+Answers (reads k os) answer w = Reads k os (answer w)
+Answers (encoded k os v) answer w = Reads k os (answer w) × Encodes answer ((answer w) .insn) (encodedAs v)
+Answers (unmarked k os) answer w = Reads k os (answer w) × ((answer w) .insn .«delay_slot» ≡ false)
+Answers (goes a) answer w = ((answer w) .number ≡ 0) × ((answer w) .insn .target ≡ target.At a)
+Answers (refused n) answer w = answer w ≡ refusedOf n
 
 pub record Line : Type 0 where
   pub word : ℕ
@@ -72,15 +76,15 @@ address a = Addr a
 unfoldable pub examples : List Line
 examples =
     line 0x00000000 anywhere (reads kind.nop []) ∷
-    line 0x00200000 anywhere (reads kind.sll (zero-register ∷ zero-register ∷ value 0 ∷ [])) ∷
-    line 0x00400000 anywhere (reads kind.sll (zero-register ∷ zero-register ∷ value 0 ∷ [])) ∷
+    line 0x00200000 anywhere (encoded kind.sll (zero-register ∷ zero-register ∷ value 0 ∷ []) 0x00200000) ∷
+    line 0x00400000 anywhere (encoded kind.sll (zero-register ∷ zero-register ∷ value 0 ∷ []) 0x00200000) ∷
     line 0x08000001 (at 0xfffffffffffffffc) (goes 4) ∷
     line 0x08000000 (at 0x0ffffffc) (goes 0x10000000) ∷
-    line 0x1000ffff (at 0x1000) (reads kind.b (address 0x1000 ∷ [])) ∷
-    line 0x0401ffff (at 0x1000) (reads kind.b (address 0x1000 ∷ [])) ∷
-    line 0x24020005 anywhere (reads kind.li (v0 ∷ value 5 ∷ [])) ∷
-    line 0x64020005 anywhere (reads kind.li (v0 ∷ value 5 ∷ [])) ∷
-    line 0x34020005 anywhere (reads kind.li (v0 ∷ value 5 ∷ [])) ∷
+    line 0x1000ffff (at 0x1000) (encoded kind.b (address 0x1000 ∷ []) 0x0401ffff) ∷
+    line 0x0401ffff (at 0x1000) (encoded kind.b (address 0x1000 ∷ []) 0x0401ffff) ∷
+    line 0x24020005 anywhere (encoded kind.li (v0 ∷ value 5 ∷ []) 0x24020005) ∷
+    line 0x64020005 anywhere (encoded kind.li (v0 ∷ value 5 ∷ []) 0x24020005) ∷
+    line 0x34020005 anywhere (encoded kind.li (v0 ∷ value 5 ∷ []) 0x24020005) ∷
     line 0x3402ffff anywhere (reads kind.li (v0 ∷ value 65535 ∷ [])) ∷
     line 0x2402ffff anywhere (reads kind.li (v0 ∷ minus 1 ∷ [])) ∷
     line 0x7c821944 anywhere (reads kind.ins (v0 ∷ a0 ∷ value 5 ∷ minus 1 ∷ [])) ∷
@@ -92,7 +96,7 @@ examples =
 -- ── every one of them holds ──
 
 abbrev pub HoldsAt : ℕ → Line → Type 0
-HoldsAt va l = (wide : Bool) → Answers (l .answer) (decodedOf (l .word) va wide)
+HoldsAt va l = (wide : Bool) → Answers (l .answer) (λ w. decodedOf w va wide) (l .word)
 
 abbrev pub Placed : Place → Line → Type 0
 Placed anywhere l = (va : ℕ) → HoldsAt va l

@@ -1,13 +1,19 @@
 -- Equality of readings, part by part: a test's answer as a statement, and values that their parts determine.
 -- Assumes nothing.
 use Prim.Native.Nat.{ℕ, zero, suc}
-use mathlib.Core.Path.{_≡_, refl, sym, _∙_, ap}
+use mathlib.Core.Path.{_≡_, refl, sym, _∙_, ap, subst}
 use mathlib.Core.Bool.{Bool, true, false, not, false≢true, Bool·beq}
 use mathlib.Core.List.{List, [], _∷_}
 use mathlib.Core.Logic.{_↔_}
 use lib.ListN.{length, getD}
 use native.Mathlib.Omega.{arith}
-use borrow.Author.Tests.{not-false}
+use borrow.Author.Tests.{not-false, eqb-true, eq-eqb}
+use lib.Dec.{T, eqb}
+use lib.IntN.{ℤ}
+use mir.Syntax.{w64}
+use mir.Val.{SFits, toZ, ofZ, hasKey}
+use mir.Facts.{toZ-ofZ}
+use types.Run.{OneOf, miss}
 use Rattle.reading.specs.declared.Op.{Op}
 use Rattle.reading.specs.declared.Op.the-variants.{Reg, FReg, Imm, Mem, Addr, Cop0}
 use Rattle.reading.specs.declared.Flow.{Flow}
@@ -131,6 +137,29 @@ flow-one = one flowNumber flowFrom flow-back
 -- an answer about the parts is one about the values
 pub by-parts : {A : Type 0} {b : Bool} (x y : A) (k : A → Parts) → ((x y : A) → k x ≡ k y → x ≡ y) → {m n : Parts} → m ≡ k x → n ≡ k y → Says b (m ≡ n) → Says b (x ≡ y)
 by-parts x y k tells p q s = (λ e. tells x y (sym p ∙ (s .0 e ∙ q)), λ e. s .1 (p ∙ (ap k e ∙ sym q)))
+
+-- ── operands, case by case ──
+
+pub number-says : (m n : ℕ) → Says (eqb m n) (m ≡ n)
+number-says m n = (eqb-true m n, eq-eqb m n)
+
+-- an i64 is compared by its bits
+pub signed-says : (x y : ℤ) → SFits w64 x → SFits w64 y → Says (eqb (ofZ w64 x) (ofZ w64 y)) (x ≡ y)
+signed-says x y f g = (λ e. sym (toZ-ofZ {w = w64} f) ∙ (ap (toZ w64) (says .0 e) ∙ toZ-ofZ {w = w64} g), λ e. says .1 (ap (ofZ w64) e))
+  where
+    says : Says (eqb (ofZ w64 x) (ofZ w64 y)) (ofZ w64 x ≡ ofZ w64 y)
+    says = number-says (ofZ w64 x) (ofZ w64 y)
+
+-- two operands of one case, which holds a value that can be taken out again
+pub case-says : {A : Type 0} (case : A → Op) (value : Op → A) → ((v : A) → value (case v) ≡ v) →
+    {a b : Op} {x y : A} {t : Bool} → a ≡ case x → b ≡ case y → Says t (x ≡ y) → Says t (a ≡ b)
+case-says case value back {x = x} {y} p q s =
+    (λ e. p ∙ (ap case (s .0 e) ∙ sym q), λ e. s .1 (sym (back x) ∙ (ap value (sym p ∙ (e ∙ q)) ∙ back y)))
+
+-- of two cases: tag is an operand's case as a number, and b's is one of these
+module _ (tag : Op → ℕ) where
+  pub cases-differ : (ks : List ℕ) {a b x : Op} → T (not (hasKey ks (tag x))) → a ≡ x → OneOf ks (tag b) → Says false (a ≡ b)
+  cases-differ ks {x = x} t p k = differs (λ e. miss ks (tag x) t (subst (λ (o : Op). OneOf ks (tag o)) (sym e ∙ p) k))
 
 -- ── structs are equal if their fields are ──
 

@@ -223,7 +223,32 @@ fn same_parts(a: Parts, b: Parts) -> bool
 fn same_op(a: Op, b: Op) -> bool
     ensures { λ r. ⌜ (r ≡ true) ↔ (a ≡ b) ⌝ }
 {
-    same_parts(op_parts(a), op_parts(b))
+    match a {
+        Op::Reg(m) => match b {
+            Op::Reg(n) => m == n,
+            _ => false,
+        },
+        Op::FReg(m) => match b {
+            Op::FReg(n) => m == n,
+            _ => false,
+        },
+        Op::Imm(x) => match b {
+            Op::Imm(y) => x == y,
+            _ => false,
+        },
+        Op::Mem(x, m) => match b {
+            Op::Mem(y, n) => x == y && m == n,
+            _ => false,
+        },
+        Op::Addr(x) => match b {
+            Op::Addr(y) => x == y,
+            _ => false,
+        },
+        Op::Cop0(m) => match b {
+            Op::Cop0(n) => m == n,
+            _ => false,
+        },
+    }
 }
 
 fn same_effect(a: Effect, b: Effect) -> bool

@@ -1,4 +1,4 @@
-// Document 01's numbers for refused words.
+// Document 01's numbers for refused words and readings.
 
 // Fewer than four bytes.
 pub const SHORT: u8 = 1;
@@ -16,3 +16,6 @@ pub const COP1: u8 = 6;
 pub const SPECIAL2: u8 = 7;
 
 pub const SPECIAL3: u8 = 8;
+
+// No word has the reading.
+pub const NO_WORD: u8 = 9;

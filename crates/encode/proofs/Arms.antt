@@ -1,0 +1,138 @@
+-- One law for every arm that names the class of a mnemonic: a test of the mnemonic's first row, computed.
+-- Assumes nothing.
+use Prim.Native.Nat.{ℕ, zero, suc, _+_, _*_, _^_, _≤_, _<_}
+use mathlib.Core.Path.{_≡_, refl, sym, _∙_, ap, subst}
+use mathlib.Core.Bool.{Bool, true, false, cond, _&&_}
+use mathlib.Core.List.{List, [], _∷_}
+use mathlib.Core.Option.{Option, none, some, Option·none-ne-some}
+use native.Mathlib.Omega.{arith}
+use borrow.Author.Tests.{eqb-true, eqb-false}
+use lib.Dec.{T, eqb, leb, eqb→eq, leb→le}
+use Rattle.word.specs.Word.{word}
+use Rattle.reading.specs.declared.Op.{Op}
+use Rattle.classes.specs.Row.{Code, reg, freg, cop0, num, size, s16, u16, mem, br, jmp, Form, end, _▸_, posSize, link, Row}
+use Rattle.classes.specs.Table.{common, byWidth, table}
+use Rattle.classes.proofs.Tests.{and-l, and-r, sameForm, same-form}
+use Rattle.classes.proofs.Find.{every}
+use Rattle.inverse.proofs.Fill.{part, one-less, filled}
+use Rattle.inverse.proofs.Good.{least, base}
+use Rattle.inverse.proofs.Tables.{first}
+use Rattle.encode.specs.declared.stem.Stem.{Stem}
+use Rattle.encode.specs.Stem.{planOf, Serves, Roomy, Is}
+
+-- ── forms that are filled in the same way ──
+
+-- registers and numbers go into a field alike, and immediates into the low half
+abbrev pub plainCode : Code → Code
+plainCode (reg x) = reg x
+plainCode (freg x) = reg x
+plainCode (cop0 x) = reg x
+plainCode (num x) = reg x
+plainCode size = size
+plainCode s16 = s16
+plainCode u16 = s16
+plainCode mem = mem
+plainCode br = br
+plainCode jmp = jmp
+
+unfoldable pub plainForm : Form → Form
+plainForm end = end
+plainForm (c ▸ φ) = plainCode c ▸ plainForm φ
+plainForm posSize = posSize
+plainForm link = link
+
+part-plain : (c : Code) (va : ℕ) (o : Op) → part (plainCode c) va o ≡ part c va o
+unfolding part
+part-plain (reg x) va o = refl
+part-plain (freg x) va o = refl
+part-plain (cop0 x) va o = refl
+part-plain (num x) va o = refl
+part-plain size va o = refl
+part-plain s16 va o = refl
+part-plain u16 va o = refl
+part-plain mem va o = refl
+part-plain br va o = refl
+part-plain jmp va o = refl
+
+filled-plain : (φ : Form) (va n : ℕ) (o : ℕ → Op) → filled (plainForm φ) va n o ≡ filled φ va n o
+unfolding filled plainForm
+filled-plain end va n o = refl
+filled-plain (c ▸ φ) va n o = λ i. part-plain c va (o 0) i + filled-plain φ va (one-less n) (λ k. o (suc k)) i
+filled-plain posSize va n o = refl
+filled-plain link va n o = refl
+
+-- ── the test ──
+
+unfoldable pub serves : Stem → Option Row → Bool
+serves s none = true
+serves s (some h) = eqb ((planOf s) .least) (word (base h)) && sameForm (plainForm ((planOf s) .shape)) (plainForm (h .form))
+
+unfoldable pub suited : Stem → ℕ → Bool
+suited s k = leb ((planOf s) .least) (63 * 2 ^ 26) && (serves s (first (table true) k) && serves s (first (table false) k))
+
+served : (s : Stem) (h : Row) → T (serves s (some h)) → Serves s h
+unfolding serves
+served s h t =
+    record {
+      least = eqb→eq ((planOf s) .least) (word (base h)) (and-l (eqb ((planOf s) .least) (word (base h))) _ t);
+      shape = λ va n o. sym (filled-plain ((planOf s) .shape) va n o) ∙ (ap (λ (φ : Form). filled φ va n o) same ∙ filled-plain (h .form) va n o);
+    }
+  where
+    same : plainForm ((planOf s) .shape) ≡ plainForm (h .form)
+    same = same-form (plainForm ((planOf s) .shape)) (plainForm (h .form)) (and-r (eqb ((planOf s) .least) (word (base h))) _ t)
+
+suited-is : (s : Stem) (k : ℕ) → T (suited s k) → Is s k
+unfolding suited
+suited-is s k t = record { roomy = leb→le ((planOf s) .least) (63 * 2 ^ 26) (and-l (leb ((planOf s) .least) (63 * 2 ^ 26)) both t); serves = go }
+  where
+    both : Bool
+    both = serves s (first (table true) k) && serves s (first (table false) k)
+
+    t₁ : T both
+    t₁ = and-r (leb ((planOf s) .least) (63 * 2 ^ 26)) both t
+
+    go : (wide : Bool) (h : Row) → first (table wide) k ≡ some h → Serves s h
+    go true h e = served s h (subst (λ (o : Option Row). T (serves s o)) e (and-l (serves s (first (table true) k)) _ t₁))
+    go false h e = served s h (subst (λ (o : Option Row). T (serves s o)) e (and-r (serves s (first (table true) k)) (serves s (first (table false) k)) t₁))
+
+-- THE LAW of an arm: m is the arm's mnemonic
+pub arm : {s : Stem} {k m : ℕ} → m ≡ k → T (suited s k) → Is s m
+arm {s} {k} e t = subst (Is s) (sym e) (suited-is s k t)
+
+-- ── what no arm has ──
+
+-- the last arm first, as the arm `_` knows them
+abbrev pub NoneFrom : ℕ → ℕ → ℕ → Type 0
+NoneFrom m a zero = Unit {0}
+NoneFrom m a (suc n) = NoneFrom m a n × (m ≡ a + n → ⊥)
+
+-- n arms from a on leave nothing
+pub outside : (m a n : ℕ) → a ≤ m → m < a + n → NoneFrom m a n → ⊥
+outside m a zero l h p = omega arith
+outside m a (suc n) l h p = go (eqb m (a + n)) refl (outside m a n l)
+  where
+    go : (b : Bool) → eqb m (a + n) ≡ b → (m < a + n → NoneFrom m a n → ⊥) → ⊥
+    go true e rec = p .1 (eqb-true m (a + n) e)
+    go false e rec = let d : ¬ (m ≡ a + n) = eqb-false m (a + n) e in rec (omega arith) (p .0)
+
+-- no row has a mnemonic past the last
+small-table : (wide : Bool) → T (every (λ r. leb (r .kind) 211) (table wide))
+unfolding every table common byWidth
+small-table true = tt
+small-table false = tt
+
+none-past : (ts : List Row) (k : ℕ) → T (every (λ r. leb (r .kind) 211) ts) → 211 < k → first ts k ≡ none
+unfolding every first
+none-past [] k t l = refl
+none-past (s ∷ ts) k t l = go (eqb (s .kind) k) refl (none-past ts k (and-r (leb (s .kind) 211) _ t) l)
+  where
+    h : s .kind ≤ 211
+    h = leb→le (s .kind) 211 (and-l (leb (s .kind) 211) (every (λ r. leb (r .kind) 211) ts) t)
+
+    go : (b : Bool) → eqb (s .kind) k ≡ b → first ts k ≡ none → cond b (some s) (first ts k) ≡ none
+    go true e rec = let d : s .kind ≡ k = eqb-true (s .kind) k e in absurd (omega (arith, h))
+    go false e rec = rec
+
+pub past-all : (s : Stem) (m : ℕ) → Roomy s → 211 < m → Is s m
+past-all s m l h =
+    record { roomy = l; serves = λ wide k e. absurd (Option·none-ne-some k (sym (none-past (table wide) m (small-table wide) h) ∙ e)) }
