@@ -30,6 +30,10 @@ impl Ask {
     pub fn decode(&self) -> Option<Insn> {
         decode_word(self.word, self.va, self.wide)
     }
+
+    pub fn is_accepted(&self) -> bool {
+        self.decode().is_some()
+    }
 }
 
 /// The number of a refused word. The source only says `None`; the project tells

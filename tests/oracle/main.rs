@@ -2,7 +2,8 @@
 //!
 //! Without an argument it answers the questions on standard input in columns;
 //! `text` answers them in listing lines; `vectors` prints the kept list, and
-//! `many` as many answers as it is told to.
+//! `many` as many answers as it is told to. `smallest-vectors` and `smallest` do
+//! the same with the smallest word of the same reading for an answer.
 
 mod answer;
 mod input;
@@ -13,6 +14,7 @@ mod many;
 #[rustfmt::skip]
 mod mips;
 mod model;
+mod smallest;
 mod text;
 mod vectors;
 
@@ -20,7 +22,8 @@ use std::env;
 use std::io::{self, BufWriter, Write};
 use std::process::exit;
 
-const USAGE: &str = "usage: oracle [text | vectors | many COUNT SEED]";
+const USAGE: &str =
+    "usage: oracle [text | vectors | smallest-vectors | (many | smallest) COUNT SEED]";
 const STATUS_FAILED: i32 = 1;
 const STATUS_USAGE: i32 = 2;
 
@@ -32,14 +35,19 @@ enum Mode {
     Columns,
     Text,
     Vectors,
-    Many { count: u64, seed: u64 },
+    Many { count: usize, seed: u64 },
+    SmallestVectors,
+    Smallest { count: usize, seed: u64 },
 }
 
-fn many_of(count: &str, seed: &str) -> Option<Mode> {
-    Some(Mode::Many {
-        count: count.parse().ok()?,
-        seed: seed.parse().ok()?,
-    })
+fn counted_mode(name: &str, count: &str, seed: &str) -> Option<Mode> {
+    let count = count.parse().ok()?;
+    let seed = seed.parse().ok()?;
+    match name {
+        "many" => Some(Mode::Many { count, seed }),
+        "smallest" => Some(Mode::Smallest { count, seed }),
+        _ => None,
+    }
 }
 
 fn mode_of(arguments: &[String]) -> Option<Mode> {
@@ -47,7 +55,8 @@ fn mode_of(arguments: &[String]) -> Option<Mode> {
         [] => Some(Mode::Columns),
         [one] if one == "text" => Some(Mode::Text),
         [one] if one == "vectors" => Some(Mode::Vectors),
-        [one, count, seed] if one == "many" => many_of(count, seed),
+        [one] if one == "smallest-vectors" => Some(Mode::SmallestVectors),
+        [name, count, seed] => counted_mode(name, count, seed),
         _ => None,
     }
 }
@@ -60,9 +69,16 @@ fn run(mode: Mode, out: &mut impl Write) -> io::Result<()> {
         Mode::Vectors => vectors::list()
             .iter()
             .try_for_each(|ask| answer::write_answer(out, ask)),
-        Mode::Many { count, seed } => {
-            many::for_each_ask(count, seed, |ask| answer::write_answer(out, ask))
-        }
+        Mode::Many { count, seed } => many::asks(seed)
+            .take(count)
+            .try_for_each(|ask| answer::write_answer(out, &ask)),
+        Mode::SmallestVectors => smallest::list()
+            .iter()
+            .try_for_each(|ask| smallest::write_smallest(out, ask)),
+        Mode::Smallest { count, seed } => many::asks(seed)
+            .filter(answer::Ask::is_accepted)
+            .take(count)
+            .try_for_each(|ask| smallest::write_smallest(out, &ask)),
     }
 }
 

@@ -4,8 +4,6 @@
 //! have is asked as often as any other, with any words in between. A count and
 //! a seed name the same questions on every machine.
 
-use std::io;
-
 use crate::answer::Ask;
 use crate::vectors::{places, Place, Random};
 
@@ -13,23 +11,14 @@ use crate::vectors::{places, Place, Random};
 /// places, so that this is about one question in seven.
 const ANY_WORDS: usize = 256;
 
-/// Hands `count` questions to `answer`.
-pub fn for_each_ask<F>(count: u64, seed: u64, mut answer: F) -> io::Result<()>
-where
-    F: FnMut(&Ask) -> io::Result<()>,
-{
+/// Questions without an end.
+pub fn asks(seed: u64) -> impl Iterator<Item = Ask> {
     let mut round = places();
     round.extend([Place::ANY; ANY_WORDS]);
     let in_round = round.len() as u64;
     let mut random = Random::new(seed);
-    for number in 0..count {
+    (0..).map(move |number| {
         let place = round[(number % in_round) as usize];
-        let ask = Ask {
-            word: place.word(random.filling(number / in_round)),
-            va: random.address(),
-            wide: random.bit(),
-        };
-        answer(&ask)?;
-    }
-    Ok(())
+        random.ask(place, number / in_round)
+    })
 }

@@ -3,7 +3,7 @@
 //! The list is a table of places to sample, not of words: each row fixes the
 //! fields that make a place, and a small generator with a fixed seed fills the
 //! rest, so fields that the decoder does not read are filled as well. `many.rs`
-//! samples the same places at scale.
+//! samples the same places at scale, and `smallest.rs` for the encoder.
 
 use std::collections::BTreeSet;
 
@@ -11,7 +11,7 @@ use crate::answer::Ask;
 
 /// A field of the word: its lowest bit and its width in bits.
 #[derive(Clone, Copy)]
-struct Field {
+pub struct Field {
     low: u32,
     width: u32,
 }
@@ -21,22 +21,26 @@ impl Field {
         Field { low, width }
     }
 
-    fn values(self) -> u32 {
+    pub fn values(self) -> u32 {
         1 << self.width
     }
 
-    fn put(self, word: u32, value: u32) -> u32 {
+    pub fn get(self, word: u32) -> u32 {
+        (word >> self.low) % self.values()
+    }
+
+    pub fn put(self, word: u32, value: u32) -> u32 {
         let mask = (self.values() - 1) << self.low;
         (word & !mask) | (value << self.low)
     }
 }
 
-const OP: Field = Field::new(26, 6);
-const RS: Field = Field::new(21, 5);
-const RT: Field = Field::new(16, 5);
-const RD: Field = Field::new(11, 5);
-const SA: Field = Field::new(6, 5);
-const FUNCT: Field = Field::new(0, 6);
+pub const OP: Field = Field::new(26, 6);
+pub const RS: Field = Field::new(21, 5);
+pub const RT: Field = Field::new(16, 5);
+pub const RD: Field = Field::new(11, 5);
+pub const SA: Field = Field::new(6, 5);
+pub const FUNCT: Field = Field::new(0, 6);
 const IMM: Field = Field::new(0, 16);
 const INDEX: Field = Field::new(0, 26);
 
@@ -178,7 +182,7 @@ const WHOLE_WORDS: &[u32] = &[
 /// The example words of the project's scope, at the addresses it gives (zero
 /// where it gives none). They are asked under both flags.
 #[rustfmt::skip]
-const EXAMPLES: &[(u64, u32)] = &[
+pub const EXAMPLES: &[(u64, u32)] = &[
     (0, 0x0000_0000),
     (0, 0x0020_0000),
     (0, 0x0040_0000),
@@ -317,6 +321,15 @@ impl Random {
             ADDRESSES[(pick >> 1) as usize % ADDRESSES.len()]
         } else {
             self.next()
+        }
+    }
+
+    /// A question to a place's nth sample, with any flag.
+    pub fn ask(&mut self, place: Place, sample: u64) -> Ask {
+        Ask {
+            word: place.word(self.filling(sample)),
+            va: self.address(),
+            wide: self.bit(),
         }
     }
 }
