@@ -9,7 +9,7 @@ use mathlib.Core.Option.{Option, none, some, Option·none-ne-some, Option·some-
 use native.Mathlib.Decide.{ℕ-discrete}
 use native.Mathlib.Omega.{arith}
 use borrow.Author.Tests.{ltb-true, ltb-false}
-use lib.Dec.{T, ltb}
+use lib.Dec.{ltb}
 use Rattle.word.specs.Word.{words}
 use Rattle.reading.specs.declared.Insn.{Insn}
 use Rattle.reading.specs.declared.Decoded.{Decoded}
@@ -128,10 +128,10 @@ pub refused : (wide : Bool) (va : ℕ) (i : Insn) (c : ℕ) → Tries (table wid
 unfolding decodedOf
 refused wide va i c t n e p q = no-word p q (λ w h. n ((smallest-law (table wide) refusals (good-of wide) va i c t w h) .0 .reads))
 
--- DEMAND 3, for any tables that pass the test
-pub law : (ts : List Row) (es : List Refusal) → T (good ts es) → (va : ℕ) → Demand3 (answerBy ts es va) ts va
-law ts es t va = demand3 ts es (good-is ts es t) va
-
-pub theorems : Theorems
+by-definition : (wide : Bool) (va : ℕ) → Demand3 (λ w. decodedOf w va wide) (table wide) va
 unfolding decodedOf
-theorems wide va = law (table wide) refusals (good-table wide) va
+by-definition wide va = demand3 (table wide) refusals (good-of wide) va
+
+-- DEMAND 3
+pub theorems : Theorems good
+theorems = record { definition = by-definition; tables = λ ts es t va. demand3 ts es (good-is ts es t) va; passed = good-table }

@@ -1,19 +1,20 @@
--- DEMAND 3, stated over demand 2's definition: when two words have one reading, and which word a reading gets. It is proved of the definition
--- for every address and width flag, and of any other table of classes and acceptance table that pass one computed test (`law` in
--- proofs/Proved.antt, `good` in proofs/Good.antt).
+-- DEMAND 3, stated over demand 2's definition: when two words have one reading, and which word a reading gets. The proofs stand in
+-- proofs/Proved.antt.
 -- Assumes nothing.
 use Prim.Native.Nat.{ℕ, _<_, _≤_}
 use mathlib.Core.Path.{_≡_}
 use mathlib.Core.Bool.{Bool}
 use mathlib.Core.List.{List}
 use mathlib.Core.Logic.{_↔_}
+use lib.Dec.{T}
 use Rattle.word.specs.Word.{fieldsOf, words}
 use Rattle.reading.specs.declared.Insn.{Insn}
 use Rattle.reading.specs.declared.Decoded.{Decoded}
 use Rattle.reading.specs.declared.Encoded.{Encoded}
 use Rattle.classes.specs.Row.{Row}
 use Rattle.classes.specs.Table.{table}
-use Rattle.classes.specs.Decoded.{decodedOf}
+use Rattle.classes.specs.Refusals.{Refusal, refusals}
+use Rattle.classes.specs.Decoded.{decodedBy, decodedOf}
 use Rattle.inverse.specs.Same.{Alike}
 use Rattle.inverse.specs.Encoded.{Encodes}
 
@@ -31,5 +32,9 @@ pub record Demand3 (answer : ℕ → Decoded) (ts : List Row) (va : ℕ) : Type 
   pub restored : (w : ℕ) (e : Encoded) → w < words → Accepted answer w → Encodes answer ((answer w) .insn) e →
       (e .number ≡ 0) × (answer (e .word) ≡ answer w) × (e .word ≤ w)
 
-abbrev pub Theorems : Type 0
-Theorems = (wide : Bool) (va : ℕ) → Demand3 (λ w. decodedOf w va wide) (table wide) va
+-- for every address and width flag; and for any table of classes and acceptance table that pass a test, as those of the definition do
+-- (it is `good` in proofs/Good.antt)
+pub record Theorems (test : List Row → List Refusal → Bool) : Type 0 where
+  pub definition : (wide : Bool) (va : ℕ) → Demand3 (λ w. decodedOf w va wide) (table wide) va
+  pub tables : (ts : List Row) (es : List Refusal) → T (test ts es) → (va : ℕ) → Demand3 (λ w. decodedBy ts es va (fieldsOf w)) ts va
+  pub passed : (wide : Bool) → T (test (table wide) refusals)
