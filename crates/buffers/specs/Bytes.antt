@@ -1,0 +1,33 @@
+-- Bytes that a caller lends: what a writer leaves of them, and a number as bytes.
+-- Assumes nothing.
+use Prim.Native.Nat.{ℕ, zero, suc, _+_, _*_, _/_, _%_}
+use mathlib.Core.Bool.{cond}
+use mathlib.Core.List.{List, [], _∷_, _++_}
+use lib.Dec.{leb}
+use lib.ListN.{length, take, drop}
+
+-- d with the bytes l from its start on, and as before after them
+abbrev pub over : List ℕ → List ℕ → List ℕ
+over l d = l ++ drop (length l) d
+
+-- d with the bytes l from place `at` on, and as before elsewhere
+abbrev pub overAt : ℕ → List ℕ → List ℕ → List ℕ
+overAt at l d = take at d ++ l ++ drop (at + length l) d
+
+-- the same where they have room, else d as it was
+abbrev pub placed : ℕ → List ℕ → List ℕ → List ℕ
+placed at l d = cond (leb (at + length l) (length d)) (overAt at l d) d
+
+-- the low k bytes of n, the lowest first
+abbrev pub le : ℕ → ℕ → List ℕ
+le zero n = []
+le (suc k) n = n % 256 ∷ le k (n / 256)
+
+-- the number that bytes give, the lowest first
+abbrev pub num : List ℕ → ℕ
+num [] = 0
+num (b ∷ bs) = b + 256 * num bs
+
+-- the number in the eight bytes from place `at` on, and 0 where there are fewer
+abbrev pub numAt : ℕ → List ℕ → ℕ
+numAt at l = cond (leb (at + 8) (length l)) (num (take 8 (drop at l))) 0

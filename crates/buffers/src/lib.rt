@@ -1,0 +1,99 @@
+// Writing into bytes that a caller lends, and numbers as little-endian bytes. Stands on nothing.
+// Every function takes any place: where there is no room, nothing is written, and 0 is read.
+ghost use mathlib.Core.Path.{_≡_};
+ghost use Prim.Native.Nat.{_+_, _≤_, _<_};
+ghost use lib.ListN.{length, take, drop};
+ghost use mathlib.Core.List.{[], _∷_};
+ghost use Rattle.buffers.specs.Bytes.{over, placed, le, num, numAt};
+
+// Copies src to dst from place `at` on.
+pub fn put(src: &[u8], dst: &mut [u8], at: usize)
+    ensures { λ _. ⌜ now (dst .exit) ≡ placed at (now (src .entry)) (now (dst .entry)) ⌝ }
+{
+    if at <= dst.len() {
+        if src.len() <= dst.len() - at {
+            copy(src, &mut dst[at..]);
+        }
+    }
+}
+
+// Copies src to the start of dst.
+fn copy(src: &[u8], dst: &mut [u8])
+    requires { ⌜ length (now src) ≤ length (now dst) ⌝ }
+    ensures { λ _. ⌜ now (dst .exit) ≡ over (now (src .entry)) (now (dst .entry)) ⌝ }
+{
+    let mut i = 0;
+    while i < src.len() {
+        dst[i] = src[i];
+        i += 1;
+    }
+}
+
+// The byte x, to dst at place `at`.
+pub fn put1(x: u8, dst: &mut [u8], at: usize)
+    ensures { λ _. ⌜ now (dst .exit) ≡ placed at (x ∷ []) (now (dst .entry)) ⌝ }
+{
+    if at < dst.len() {
+        dst[at] = x;
+    }
+}
+
+// The eight bytes of x, the lowest first.
+fn bytes8(x: u64) -> [u8; 8]
+    ensures { λ r. ⌜ r ≡ le 8 x ⌝ }
+{
+    [
+        (x % 256) as u8,
+        (x / 256 % 256) as u8,
+        (x / 256 / 256 % 256) as u8,
+        (x / 256 / 256 / 256 % 256) as u8,
+        (x / 256 / 256 / 256 / 256 % 256) as u8,
+        (x / 256 / 256 / 256 / 256 / 256 % 256) as u8,
+        (x / 256 / 256 / 256 / 256 / 256 / 256 % 256) as u8,
+        (x / 256 / 256 / 256 / 256 / 256 / 256 / 256 % 256) as u8,
+    ]
+}
+
+// The same, to dst from place `at` on.
+pub fn put8(x: u64, dst: &mut [u8], at: usize)
+    ensures { λ _. ⌜ now (dst .exit) ≡ placed at (le 8 x) (now (dst .entry)) ⌝ }
+{
+    let b = bytes8(x);
+    put(&b, dst, at);
+}
+
+// The number in eight bytes from place `at` on, the lowest first. Its own bytes are then those: a byte is below 256, which the list alone
+// does not say.
+pub fn get8(src: &[u8], at: usize) -> u64
+    ensures { λ r. ⌜ r ≡ numAt at (now (src .entry)) ⌝ }
+    ensures { λ r. ⌜ (at + 8 ≤ length (now (src .entry)) → le 8 r ≡ take 8 (drop at (now (src .entry)))) ⌝ }
+{
+    if at <= src.len() {
+        if 8 <= src.len() - at {
+            return number8(src, at);
+        }
+    }
+    0
+}
+
+fn wide(x: u8) -> u64
+    ensures { λ r. ⌜ (r ≡ x) × (r < 256) ⌝ }
+{
+    x as u64
+}
+
+fn number8(b: &[u8], at: usize) -> u64
+    requires { ⌜ at + 8 ≤ length (now b) ⌝ }
+    ensures { λ r. ⌜ r ≡ num (take 8 (drop at (now (b .entry)))) ⌝ }
+    ensures { λ r. ⌜ le 8 r ≡ take 8 (drop at (now (b .entry))) ⌝ }
+{
+    let b0 = wide(b[at]);
+    let b1 = wide(b[at + 1]);
+    let b2 = wide(b[at + 2]);
+    let b3 = wide(b[at + 3]);
+    let b4 = wide(b[at + 4]);
+    let b5 = wide(b[at + 5]);
+    let b6 = wide(b[at + 6]);
+    let b7 = wide(b[at + 7]);
+    b0 + 256 * (b1 + 256 * (b2 + 256 * (b3 + 256 * (b4 + 256 * (b5 + 256 * (b6 + 256 * b7))))))
+}
