@@ -1,0 +1,134 @@
+-- Each part of a reading comes back from the bytes that it was packed into.
+-- Assumes nothing.
+use Prim.Native.Nat.{ℕ, _+_, _*_, _-_, _%_, _^_, _<_}
+use mathlib.Core.Path.{_≡_, refl, sym, ap, _∙_}
+use mathlib.Core.Bool.{Bool, true, false}
+use mathlib.Core.List.{List, [], _∷_, _++_}
+use native.Mathlib.Omega.{arith}
+use lib.Dec.{eqb, ltb}
+use lib.IntN.{ℤ, pos, negsuc}
+use lib.ListN.{length, getD}
+use lib.Seq.{take-at}
+use borrow.Author.Tests.{ltb-false}
+use Rattle.word.specs.Numbers.{signed, modulo64}
+use Rattle.word.proofs.Signed.{twos-complement}
+use Rattle.reading.specs.declared.Op.{Op}
+use Rattle.reading.specs.declared.Op.the-variants.{Reg, FReg, Imm, Mem, Addr, Cop0}
+use Rattle.reading.specs.declared.Operand.{Operand}
+use Rattle.reading.specs.declared.Flow.{Flow}
+use Rattle.reading.specs.declared.Flow.the-variants as flow
+use Rattle.reading.specs.declared.Effect.{Effect}
+use Rattle.reading.specs.declared.Effect.the-variants as effect
+use Rattle.reading.specs.declared.Target.{Target}
+use Rattle.reading.specs.declared.Target.the-variants as target
+use Rattle.reading.specs.declared.Insn.{Insn}
+use Rattle.reading.specs.declared.Parts.{Parts}
+use Rattle.reading.specs.Reading.{operand, unused}
+use Rattle.reading.specs.Numbers.{opParts, effectParts, targetParts, valueOf, flowNumber}
+use Rattle.buffers.specs.Bytes.{le, num}
+use Rattle.buffers.proofs.Laws.{num-le}
+use Rattle.names.specs.Names.{letters, padded, nameBytes, kindOf}
+use Rattle.names.proofs.Proved.{theorems}
+use Rattle.record.specs.Record.{bit, slotParts, slotOf, insnBytes}
+use Rattle.record.specs.Unpacked.{opIn, effectIn, flowIn, targetIn, slotIn, insnIn}
+use Rattle.record.specs.Theorems.{I64, Fits, Proper}
+
+-- ── values ──
+
+num-le8 : (v : ℕ) → v < 2 ^ 64 → num (le 8 v) ≡ v
+num-le8 v h = num-le 8 v h
+
+-- a signed value, beside an address that is 0
+pub value-back : (z : ℤ) → I64 z → signed 64 (num (le 8 (modulo64 z + 0))) ≡ z
+value-back (pos n) h =
+    let e : n % 2 ^ 64 + 0 ≡ n = omega (arith, h) in
+    ap (λ (v : ℕ). signed 64 (num (le 8 v))) e ∙ ap (signed 64) (num-le8 n (omega (arith, h))) ∙ twos-complement 64 refl .upward n h
+value-back (negsuc n) h =
+    let e : 2 ^ 64 - 1 - n % 2 ^ 64 + 0 ≡ 2 ^ 64 - (n + 1) = omega (arith, h) in
+    ap (λ (v : ℕ). signed 64 (num (le 8 v))) e ∙ ap (signed 64) (num-le8 (2 ^ 64 - (n + 1)) (omega arith)) ∙ twos-complement 64 refl .downward n h
+
+-- an address, beside a value that is 0
+pub address-back : (a : ℕ) → a < 2 ^ 64 → num (le 8 (modulo64 (pos 0) + a)) ≡ a
+address-back a h =
+    let e : 0 % 2 ^ 64 + a ≡ a = omega arith in
+    ap (λ (v : ℕ). num (le 8 v)) e ∙ num-le8 a h
+
+-- ── cases by their numbers ──
+
+abbrev valueIn : Parts → ℕ
+valueIn p = num (le 8 (valueOf p))
+
+op-back : (o : Op) → Fits (opParts o) → opIn (opParts o .number) (opParts o .first) (valueIn (opParts o)) ≡ o
+op-back (Reg n) f = refl
+op-back (FReg n) f = refl
+op-back (Imm z) f = ap Imm (value-back z (f .value))
+op-back (Mem z n) f = ap (λ (x : ℤ). Mem x n) (value-back z (f .value))
+op-back (Addr a) f = ap Addr (address-back a (f .address))
+op-back (Cop0 n) f = refl
+
+pub effect-back : (e : Effect) → Fits (effectParts e) → (let p : Parts = effectParts e in effectIn (p .number) (p .first) (p .second) (p .size) (valueIn p) ≡ e)
+effect-back effect.None f = refl
+effect-back (effect.SetAddr t a) f = ap (effect.SetAddr t) (address-back a (f .address))
+effect-back (effect.AddImm t s z) f = ap (effect.AddImm t s) (value-back z (f .value))
+effect-back (effect.Mem t s z n) f = ap (λ (x : ℤ). effect.Mem t s x n) (value-back z (f .value))
+effect-back (effect.Write t) f = refl
+
+pub flow-back : (f : Flow) → flowIn (flowNumber f) ≡ f
+flow-back flow.None = refl
+flow-back flow.Call = refl
+flow-back flow.Jump = refl
+flow-back flow.CondJump = refl
+flow-back flow.Ret = refl
+flow-back flow.Interrupt = refl
+
+pub target-back : (b : Bool) (t : Target) → Fits (targetParts t) → targetIn (bit b + 2 * targetParts t .number) (valueIn (targetParts t)) ≡ t
+target-back true target.None f = refl
+target-back false target.None f = refl
+target-back true (target.At a) f = ap target.At (address-back a (f .address))
+target-back false (target.At a) f = ap target.At (address-back a (f .address))
+
+pub mark-back : (b : Bool) (t : Target) → eqb ((bit b + 2 * targetParts t .number) % 2) 1 ≡ b
+mark-back true target.None = refl
+mark-back false target.None = refl
+mark-back true (target.At a) = refl
+mark-back false (target.At a) = refl
+
+-- ── the four slots ──
+
+pub slot-back : (i : Insn) (k : ℕ) → Proper i → (let p : Parts = slotOf i k in slotIn (p .number) (p .first) (valueIn p) ≡ getD (i .ops) k unused)
+slot-back i k q = go (ltb k (i .count)) refl
+  where
+    o : Op
+    o = getD (i .ops) k unused .op
+
+    go : (b : Bool) → ltb k (i .count) ≡ b → (let p : Parts = slotParts b o in slotIn (p .number) (p .first) (valueIn p) ≡ getD (i .ops) k unused)
+    go true e = ap operand (op-back o (q .operands k))
+    go false e = sym (q .rest k (ltb-false k (i .count) e))
+
+pub four-slots : (l : List Operand) → length l ≡ 4 → getD l 0 unused ∷ getD l 1 unused ∷ getD l 2 unused ∷ getD l 3 unused ∷ [] ≡ l
+four-slots [] h = absurd (omega (arith, h))
+four-slots (a ∷ []) h = absurd (omega (arith, h))
+four-slots (a ∷ b ∷ []) h = absurd (omega (arith, h))
+four-slots (a ∷ b ∷ c ∷ []) h = absurd (omega (arith, h))
+four-slots (a ∷ b ∷ c ∷ d ∷ []) h = refl
+four-slots (a ∷ b ∷ c ∷ d ∷ e ∷ l) h = absurd (omega (arith, h))
+
+-- ── the whole ──
+
+pub name-long : (k : ℕ) → length (nameBytes k) ≡ 16
+unfolding nameBytes padded letters
+name-long k = refl
+
+pub insn-back : (i : Insn) → Proper i → (after : List ℕ) → insnIn (insnBytes i ++ after) ≡ i
+unfolding insnIn
+insn-back i q after =
+    λ t.
+    record {
+      mnemonic = (ap kindOf (take-at (nameBytes (i .mnemonic)) after 16 (name-long (i .mnemonic))) ∙ theorems .back (i .mnemonic) (q .known)) t;
+      count = i .count;
+      ops = ((λ s. slot-back i 0 q s ∷ slot-back i 1 q s ∷ slot-back i 2 q s ∷ slot-back i 3 q s ∷ []) ∙ four-slots (i .ops) (q .four)) t;
+      flow = flow-back (i .flow) t;
+      target = target-back (i .«delay_slot») (i .target) (q .target) t;
+      «delay_slot» = mark-back (i .«delay_slot») (i .target) t;
+      effect = effect-back (i .effect) (q .effect) t;
+    }

@@ -1,0 +1,6 @@
+pub mod Cases
+pub mod Back
+pub mod Accepted
+pub mod Pieces
+pub mod Whole
+pub mod Proved

@@ -1,0 +1,49 @@
+-- `record::head` meets its contract.
+-- Assumes nothing.
+use borrow.Author.Needs.{needs}
+use mathlib.Core.Path.{refl, ap, _∙_}
+use mathlib.Core.List.{[], _∷_}
+use Prim.Native.Nat.{ℕ, _+_, _*_, _%_, _^_}
+use native.Mathlib.Omega.{arith}
+use Rattle.reading.specs.declared.Parts.{Parts}
+use Rattle.reading.specs.Numbers.{targetParts, valueOf, flowNumber}
+use Rattle.buffers.specs.Bytes.{le}
+use Rattle.buffers.proofs.Laws.{first-at, next-at, byte, low8}
+use Rattle.record.specs.Record.{bit}
+use Rattle.record.proofs.head.Statement.{statement}
+use Rattle.record.proofs.head.Tie as tie
+
+returns : tie.Need-returns
+returns c =
+    let s = c .before .before .before .before .before .before .before .before .before .before .before .before .before .before .before .before .before .before .before .before .before .before .before .before .before .before in
+    let d = s .args .out .now in
+    let i = s .args .d .insn in
+    let f : ℕ = flowNumber (i .flow) in
+    let m : ℕ = bit (i .«delay_slot») + 2 * targetParts (i .target) .number in
+    let v : ℕ = valueOf (targetParts (i .target)) in
+    let low = c .before .before .before .before .value-of .ensures ∙ ap (λ (p : Parts). valueOf p % 2 ^ 64) (c .before .before .before .before .before .before .before .before .before .before .before .before .before .before .before .before .before .before .before .before .before .before .before .target-parts .ensures) in
+    next-at 0 4 (0 ∷ f ∷ m ∷ i .count ∷ []) (le 8 v) d refl (omega arith)
+    (next-at 0 3 (0 ∷ f ∷ m ∷ []) (i .count ∷ []) d refl (omega arith)
+    (next-at 0 2 (0 ∷ f ∷ []) (m ∷ []) d refl (omega arith)
+    (next-at 0 1 (0 ∷ []) (f ∷ []) d refl (omega arith)
+    (first-at 0 (0 ∷ []) d (omega arith) refl (c .before .before .before .before .before .before .before .before .before .before .before .before .before .before .before .before .before .before .before .before .before .put1 .ensures))
+    (byte (c .before .before .before .before .before .before .before .before .before .before .before .before .before .before .before .before .before .before .flow-number .ensures)) (c .before .before .before .before .before .before .before .before .before .before .before .before .before .before .before .before .put12 .ensures))
+    (byte (c .before .before .before .before .before .before .before .before .before .before .before .before .before .marks .ensures)) (c .before .before .before .before .before .before .before .before .before .before .before .put13 .ensures))
+    refl (c .before .before .before .before .before .before .before .put14 .ensures))
+    (low8 _ v low) (c .before .before .put8 .ensures)
+
+pub head-spec : {M : Type 1} → statement M
+head-spec =
+    tie.close
+    (tie.spec
+    (λ c κs. search needs)
+    (λ c κs. search needs)
+    (λ c κs. search needs)
+    (λ c κs. search needs)
+    (λ c κs. search needs)
+    (λ c κs. search needs)
+    (λ c κs. search needs)
+    (λ c κs. search needs)
+    (λ c κs. search needs)
+    (λ c. search needs)
+    returns)

@@ -1,0 +1,33 @@
+-- `record::name_in` meets its contract.
+-- Assumes nothing.
+use borrow.Author.Needs.{needs}
+use mathlib.Core.Path.{sym}
+use native.Mathlib.Omega.{arith}
+use Rattle.buffers.proofs.Laws.{each-is}
+use Rattle.record.proofs.name_in.Statement.{statement}
+use Rattle.record.proofs.name_in.Tie as tie
+
+returns : tie.Need-returns
+returns c = sym (each-is 16 64 (c .before .before .before .before .before .before .before .before .before .before .before .before .before .before .before .before .args .b .now) (omega arith))
+
+pub name-in-spec : {M : Type 1} → statement M
+name-in-spec =
+    tie.close
+    (tie.spec
+    (λ c. search needs)
+    (λ c. search needs)
+    (λ c. search needs)
+    (λ c. search needs)
+    (λ c. search needs)
+    (λ c. search needs)
+    (λ c. search needs)
+    (λ c. search needs)
+    (λ c. search needs)
+    (λ c. search needs)
+    (λ c. search needs)
+    (λ c. search needs)
+    (λ c. search needs)
+    (λ c. search needs)
+    (λ c. search needs)
+    (λ c. search needs)
+    returns)

@@ -1,0 +1,4 @@
+pub mod Record
+pub mod Unpacked
+pub mod Steps
+pub mod Theorems
