@@ -50,17 +50,18 @@ install_package() {
     DEBIAN_FRONTEND=noninteractive apt-get -qq -y install --no-install-recommends "$1" >/dev/null 2>&1
 }
 
-# need_tool COMMAND PACKAGE: goes on if the command can be had. Under CI every
-# test has to run, so there a missing tool is a failure.
+# missing TEXT: the test cannot be run without something. Under CI every test has
+# to run, so there it is a failure.
+missing() {
+    [ "${CI:-}" != true ] || failed "$1"
+    skipped "$1"
+}
+
+# need_tool COMMAND PACKAGE: goes on if the command can be had.
 need_tool() {
     command -v "$1" >/dev/null 2>&1 && return 0
-    if install_package "$2" && command -v "$1" >/dev/null 2>&1; then
-        return 0
-    fi
-    if [ "${CI:-}" = true ]; then
-        failed "$1 is missing and could not be installed (package $2)"
-    fi
-    skipped "$1 is missing and could not be installed (package $2)"
+    install_package "$2" && command -v "$1" >/dev/null 2>&1 && return 0
+    missing "$1 is missing and could not be installed (package $2)"
 }
 
 # same_file KEPT MADE TEXT: fails with TEXT and shows the first lines that differ.
@@ -85,14 +86,10 @@ build_oracle() {
 }
 
 # need_program PROGRAM: goes on if `rt` has built the program. Without it there
-# is nothing to compare; under CI `rt ci` has run before, so there it is a failure.
+# is nothing to compare; under CI `rt ci` has run before.
 need_program() {
     [ -x "$1" ] && return 0
-    missing="target/bin/${1##*/} is missing; \`rt check ${1##*/}\` builds it"
-    if [ "${CI:-}" = true ]; then
-        failed "$missing"
-    fi
-    skipped "$missing"
+    missing "target/bin/${1##*/} is missing; \`rt check ${1##*/}\` builds it"
 }
 
 # Where the package libc6-amd64-cross puts the C library of x86-64.
@@ -106,12 +103,38 @@ need_x86() {
     need_tool "$X86_LOADER" libc6-amd64-cross
 }
 
-# run_x86 PROGRAM: runs a program for x86-64, on another machine in an emulator.
+# run_x86 PROGRAM WORD..: runs a program for x86-64, on another machine in an emulator.
 # `need_x86` comes first, outside any pipe, where it can end the test.
 run_x86() {
     if [ "$(uname -m)" = x86_64 ]; then
-        "$1"
+        "$@"
     else
-        qemu-x86_64 "$X86_LOADER" --library-path "$X86_LIBC" "$1"
+        qemu-x86_64 "$X86_LOADER" --library-path "$X86_LIBC" "$@"
     fi
+}
+
+# need_archive ROOT FOLDER: the library for C, proved and built by `rt` in the
+# project ROOT, as $archive. What `rt` says stays in FOLDER. With CALMUREDDA_ARCHIVE
+# another build of the library is tested.
+need_archive() {
+    archive=${CALMUREDDA_ARCHIVE:-$1/target/staticlib/libcalmuredda.a}
+    [ -z "${CALMUREDDA_ARCHIVE:-}" ] || return 0
+    command -v rt >/dev/null 2>&1 || missing "rt, the command of the Rattle kit, is not on the PATH"
+    mkdir -p "$2"
+    (cd "$1" && rt staticlib calmuredda) >"$2/staticlib.txt" 2>&1 || failed "the library is not proved; see $2/staticlib.txt"
+}
+
+# need_x86_cc: a C compiler and linker for x86-64, the machine of the library, as
+# $x86_cc.
+need_x86_cc() {
+    x86_cc=cc
+    if [ "$(uname -m)" = x86_64 ]; then
+        need_tool cc gcc
+        return 0
+    fi
+    x86_cc=x86_64-linux-gnu-gcc
+    need_tool $x86_cc gcc-x86-64-linux-gnu
+    # The compiler's package only recommends the C library that programs are linked with.
+    [ -e "$X86_LIBC/crt1.o" ] || install_package libc6-dev-amd64-cross ||
+        missing "the C library for x86-64 is missing and could not be installed (package libc6-dev-amd64-cross)"
 }
