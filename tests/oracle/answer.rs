@@ -52,17 +52,17 @@ pub fn refusal_number(word: u32) -> u8 {
 
 /// The effect columns; what an effect does not have stays zero.
 #[derive(Default)]
-struct EffectColumns {
-    kind: u8,
-    first: u8,
-    second: u8,
-    size: u8,
-    value: u64,
+pub struct EffectColumns {
+    pub kind: u8,
+    pub first: u8,
+    pub second: u8,
+    pub size: u8,
+    pub value: u64,
 }
 
 impl EffectColumns {
     /// The kinds count in the order of the source's `Effect`.
-    fn of(effect: Effect) -> EffectColumns {
+    pub fn of(effect: Effect) -> EffectColumns {
         // `as u64` keeps a negative number's two's complement, as the columns want.
         let (kind, first, second, size, value) = match effect {
             Effect::None => (0, 0, 0, 0, 0),
@@ -83,15 +83,15 @@ impl EffectColumns {
 
 /// One operand slot; an unused slot is all zero.
 #[derive(Default, Clone, Copy)]
-struct Slot {
-    kind: u8,
-    register: u8,
-    value: u64,
+pub struct Slot {
+    pub kind: u8,
+    pub register: u8,
+    pub value: u64,
 }
 
 impl Slot {
     /// The kinds count from 1 in the order of the source's `Op`.
-    fn of(op: &Op) -> Slot {
+    pub fn of(op: &Op) -> Slot {
         let (kind, register, value) = match *op {
             Op::Reg(r) => (1, r, 0),
             Op::FReg(r) => (2, r, 0),

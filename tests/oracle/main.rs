@@ -3,9 +3,12 @@
 //! Without an argument it answers the questions on standard input in columns;
 //! `text` answers them in listing lines; `vectors` prints the kept list, and
 //! `many` as many answers as it is told to. `smallest-vectors` and `smallest` do
-//! the same with the smallest word of the same reading for an answer.
+//! the same with the smallest word of the same reading for an answer. `records` writes
+//! questions to the library for C in binary frames, with the answers to them.
 
 mod answer;
+mod damage;
+mod find;
 mod input;
 mod many;
 // The file is kept as published: the driver does not call all of it, and
@@ -14,6 +17,8 @@ mod many;
 #[rustfmt::skip]
 mod mips;
 mod model;
+mod record;
+mod records;
 mod smallest;
 mod text;
 mod vectors;
@@ -23,7 +28,7 @@ use std::io::{self, BufWriter, Write};
 use std::process::exit;
 
 const USAGE: &str =
-    "usage: oracle [text | vectors | smallest-vectors | (many | smallest) COUNT SEED]";
+    "usage: oracle [text | vectors | smallest-vectors | (many | smallest | records) COUNT SEED]";
 const STATUS_FAILED: i32 = 1;
 const STATUS_USAGE: i32 = 2;
 
@@ -38,6 +43,7 @@ enum Mode {
     Many { count: usize, seed: u64 },
     SmallestVectors,
     Smallest { count: usize, seed: u64 },
+    Records { count: usize, seed: u64 },
 }
 
 fn counted_mode(name: &str, count: &str, seed: &str) -> Option<Mode> {
@@ -46,6 +52,7 @@ fn counted_mode(name: &str, count: &str, seed: &str) -> Option<Mode> {
     match name {
         "many" => Some(Mode::Many { count, seed }),
         "smallest" => Some(Mode::Smallest { count, seed }),
+        "records" => Some(Mode::Records { count, seed }),
         _ => None,
     }
 }
@@ -79,6 +86,7 @@ fn run(mode: Mode, out: &mut impl Write) -> io::Result<()> {
             .filter(answer::Ask::is_accepted)
             .take(count)
             .try_for_each(|ask| smallest::write_smallest(out, &ask)),
+        Mode::Records { count, seed } => records::write_frames(out, count, seed),
     }
 }
 

@@ -33,7 +33,7 @@ const TRIES: u64 = 256;
 
 /// Are the two readings one? The published `Insn` has no such comparison. The
 /// cheap parts come first: nearly all comparisons end there.
-fn is_same(a: &Insn, b: &Insn) -> bool {
+pub fn is_same(a: &Insn, b: &Insn) -> bool {
     a.effect == b.effect
         && a.flow == b.flow
         && a.target == b.target
@@ -100,14 +100,28 @@ impl Search {
     }
 }
 
+fn search_of(ask: &Ask) -> Option<Search> {
+    let reading = ask.decode()?;
+    Some(Search { ask: *ask, reading })
+}
+
+/// The smallest word with the reading of the question's word, if it has one.
+pub fn smallest_word(ask: &Ask) -> Option<u32> {
+    search_of(ask).map(|search| search.smallest())
+}
+
+/// The same among the words with its op, for a search that knows the ops.
+pub fn lowest_fields(ask: &Ask) -> Option<u32> {
+    search_of(ask).map(|search| search.with_low_fields(ask.word))
+}
+
 /// Writes the question and the smallest word with the answer's reading as one
 /// line; nothing for a refused word.
 pub fn write_smallest(out: &mut impl Write, ask: &Ask) -> io::Result<()> {
-    let search = match ask.decode() {
-        Some(reading) => Search { ask: *ask, reading },
+    let smallest = match smallest_word(ask) {
+        Some(word) => word,
         None => return Ok(()),
     };
-    let smallest = search.smallest();
     let flag = ask.wide as u8;
     writeln!(
         out,

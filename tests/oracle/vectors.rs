@@ -41,8 +41,8 @@ pub const RT: Field = Field::new(16, 5);
 pub const RD: Field = Field::new(11, 5);
 pub const SA: Field = Field::new(6, 5);
 pub const FUNCT: Field = Field::new(0, 6);
-const IMM: Field = Field::new(0, 16);
-const INDEX: Field = Field::new(0, 26);
+pub const IMM: Field = Field::new(0, 16);
+pub const INDEX: Field = Field::new(0, 26);
 
 // The ops that lead to a table of their own, and two that jump.
 const SPECIAL: u32 = 0;
