@@ -1,0 +1,139 @@
+# Shared by the scripts of bench/: words to count over, the counting of a run, and the table. A script sets root, bench and out, reads
+# tests/lib.sh and then this file.
+# shellcheck shell=sh
+# shellcheck disable=SC2154
+
+# ── words ──
+
+# fetch NAME: the words of that kind's libc, as $out/NAME.words.
+fetch() {
+    [ ! -s "$out/$1.words" ] || return 0
+    package=libc6-$1-cross
+    rm -rf "$out/$1" "$out/$package"_*.deb
+    mkdir -p "$out/$1"
+    (cd "$out" && apt-get -qq download "$package" >/dev/null 2>&1) ||
+        { apt-get -qq update >/dev/null 2>&1 && (cd "$out" && apt-get -qq download "$package" >/dev/null 2>&1); } ||
+        failed "the package $package cannot be had"
+    dpkg -x "$out/$package"_*.deb "$out/$1" || failed "the package $package cannot be unpacked"
+    python3 "$bench/words.py" "$(find "$out/$1" -name libc.so.6)" >"$out/$1.part" || failed "$package has no code"
+    mv "$out/$1.part" "$out/$1.words"
+}
+
+# input NAME SWITCH WIDE BIG: what the programs read. With the switch on they do what is measured, with it off all but that.
+input() {
+    # shellcheck disable=SC2059
+    printf "\\00$2\\00$3\\00$4\\000" | cat - "$out/$1.words" >"$out/$1.in$2"
+}
+
+# ── counts ──
+
+choose_counter() {
+    [ -n "${COUNTER:-}" ] || case $(uname -m) in
+        x86_64) COUNTER=valgrind ;;
+        *) COUNTER=qemu ;;
+    esac
+    case $COUNTER in
+        valgrind) need_tool valgrind valgrind ;;
+        qemu)
+            need_tool qemu-x86_64 qemu-user
+            cc -O2 -shared -fPIC -o "$out/plugin.so" "$bench/plugin.c" || failed "the plugin does not build"
+            libraries=/
+            [ -e /lib64/ld-linux-x86-64.so.2 ] || libraries=/usr/x86_64-linux-gnu
+            [ -e $libraries/lib64/ld-linux-x86-64.so.2 ] || [ -e $libraries/lib/ld-linux-x86-64.so.2 ] ||
+                install_package libc6-amd64-cross || failed "the x86-64 C library cannot be had (package libc6-amd64-cross)"
+            ;;
+        *) failed "COUNTER is valgrind or qemu" ;;
+    esac
+}
+
+# total RUN NAME SWITCH: sets count, the instructions of a whole run; what it prints goes to $out/RUN.NAME.sumSWITCH. A run is named by its
+# program, or by the program and the word that it is given: boundary-decode is `boundary decode`.
+total() {
+    said=$out/$1.$2.said$3
+    sum=$out/$1.$2.sum$3
+    calls=$out/$1.$2.calls$3
+    program=${1%%-*}
+    input=$out/$2.in$3
+    case $1 in
+        *-*) set -- "$out/$program" "${1#*-}" ;;
+        *) set -- "$out/$program" ;;
+    esac
+    if [ "$COUNTER" = valgrind ]; then
+        valgrind --tool=callgrind --callgrind-out-file="$calls" "$@" <"$input" >"$sum" 2>"$said" || failed "$* does not run; see $said"
+        count=$(awk '/Collected/ {print $NF}' "$said")
+    else
+        qemu-x86_64 -L "$libraries" -plugin "$out/plugin.so" "$@" <"$input" >"$sum" 2>"$said" || failed "$* does not run; see $said"
+        count=$(awk '/^instructions/ {print $2}' "$said")
+    fi
+    [ -n "$count" ] || failed "no count for $*; see $said"
+}
+
+# added RUN NAME: sets all_told, what the switch adds to a run.
+added() {
+    total "$1" "$2" 1
+    with=$count
+    total "$1" "$2" 0
+    all_told=$((with - count))
+}
+
+# alone RUN NAME FUNCTION: the instructions spent in the function and what it calls; valgrind only.
+alone() {
+    callgrind_annotate --inclusive=yes --threshold=100 "$out/$1.$2.calls1" | sed 's/,//g' |
+        awk -v function_name="$3 [" 'index($0, function_name) {print $1; exit}'
+}
+
+# measure RUN NAME FUNCTION: sets all_told, and in_function, with valgrind what the function takes.
+measure() {
+    added "$1" "$2"
+    in_function=-
+    [ "$COUNTER" = valgrind ] || return 0
+    in_function=$(alone "$1" "$2" "$3")
+    [ -n "$in_function" ] || failed "$3 is no function of its own in $1, so that it cannot be counted alone"
+}
+
+# ── figures; what is not counted is - ──
+
+per_word() {
+    [ "$1" != - ] || { echo - && return 0; }
+    awk -v n="$1" -v words="$2" 'BEGIN {printf "%.1f", n / words}'
+}
+
+ratio() {
+    [ "$1" != - ] || { echo - && return 0; }
+    awk -v a="$1" -v b="$2" 'BEGIN {printf "%.2f", a / b}'
+}
+
+# hold FIGURE LIMIT TEXT: adds the text to what is above a limit, if the figure is.
+hold() {
+    [ "$1" != - ] || return 0
+    awk -v x="$1" -v limit="$2" 'BEGIN {exit !(x <= limit)}' || above="$above $3;"
+}
+
+# ── the table: a row for each figure, a column for each kind of words ──
+
+columns=
+
+# begin_column NAME: the notes that follow belong to it.
+begin_column() {
+    column=$out/$1.column
+    columns="$columns $1.column"
+    : >"$column"
+}
+
+# note LABEL FIGURE: a row of the column.
+note() {
+    echo "$1|$2" | sed -e ':more' -e 's/\(|[0-9]*[0-9]\)\([0-9]\{3\}\)/\1,\2/' -e 'tmore' >>"$column"
+}
+
+# table HEAD: the columns side by side, in Markdown, as docs/BENCH.md has them.
+table() {
+    # shellcheck disable=SC2086
+    (cd "$out" && awk -F '|' -v head="$1" '
+        FNR == 1 {sub(/\.column$/, "", FILENAME); head = head " | " FILENAME; rule = rule "---|"}
+        NR == FNR {label[FNR] = $1}
+        {figures[FNR] = figures[FNR] " | " $2}
+        END {
+            print "| " head " |\n|---|" rule
+            for (row = 1; row <= FNR; row++) print "| " label[row] figures[row] " |"
+        }' $columns)
+}
