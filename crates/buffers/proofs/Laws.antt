@@ -37,7 +37,7 @@ each-is (suc k) at b h =
 
 -- ── the part `d[at..]`, lent and come back ──
 
-tail-part : (at : ℕ) (d : List ℕ) → midOf at (length d - at) d ≡ drop at d
+pub tail-part : (at : ℕ) (d : List ℕ) → midOf at (length d - at) d ≡ drop at d
 tail-part at d = take-all (length d - at) (drop at d) (simp length-drop (omega arith))
 
 tail-back : (at : ℕ) (d ys : List ℕ) → putMid at (length d - at) d ys ≡ take at d ++ ys
@@ -60,14 +60,14 @@ placed-out at l d h = rw (lt-leb _ _ h)
 
 -- ── writes one after the other ──
 
-overAt-length : (at : ℕ) (l d : List ℕ) → at + length l ≤ length d → length (overAt at l d) ≡ length d
+pub overAt-length : (at : ℕ) (l d : List ℕ) → at + length l ≤ length d → length (overAt at l d) ≡ length d
 overAt-length at l d h = simp (length-append, length-drop) (rw (length-take-le at d (omega arith)) (omega arith))
 
 -- p stands from place k on, and l is written right after it
-row-at : (k at : ℕ) (p l d : List ℕ) → k + length p ≡ at → at + length l ≤ length d → overAt at l (overAt k p d) ≡ overAt k (p ++ l) d
+pub row-at : (k at : ℕ) (p l d : List ℕ) → k + length p ≡ at → k ≤ length d → overAt at l (overAt k p d) ≡ overAt k (p ++ l) d
 row-at k at p l d e h =
     let q : List ℕ = take k d ++ p in
-    let lq : length q ≡ at = simp length-append (rw (length-take-le k d (omega arith)) e) in
+    let lq : length q ≡ at = simp length-append (rw (length-take-le k d h) e) in
     rw (take-at q (drop (k + length p) d) at lq)
     (ap (λ (z : List ℕ). (q ++ l) ++ z)
     (sym (drop-drop (length l) at (overAt k p d)) ∙ ap (drop (length l)) (drop-at q (drop (k + length p) d) at lq) ∙ drop-drop (length l) (k + length p) d ∙ ap (λ (m : ℕ). drop m d) (add-assoc k (length p) (length l) ∙ ap (λ (m : ℕ). k + m) (sym (length-append p l))))
@@ -81,11 +81,11 @@ first-at k l d h e w = w ∙ ap (λ (x : List ℕ). placed k x d) e ∙ placed-i
 pub next-at : (k at : ℕ) (p l d : List ℕ) {src d₁ d₂ : List ℕ} → k + length p ≡ at → at + length l ≤ length d → d₁ ≡ overAt k p d → src ≡ l → d₂ ≡ placed at src d₁ → d₂ ≡ overAt k (p ++ l) d
 next-at k at p l d {src} e h u f w =
     w ∙ ap (placed at src) u ∙ ap (λ (x : List ℕ). placed at x (overAt k p d)) f
-    ∙ placed-in at l (overAt k p d) (rw (overAt-length k p d (omega arith)) h) ∙ row-at k at p l d e h
+    ∙ placed-in at l (overAt k p d) (rw (overAt-length k p d (omega arith)) h) ∙ row-at k at p l d e (omega arith)
 
 -- the same where the writer says that there was room
 pub then-at : (k at : ℕ) (p l d : List ℕ) {d₁ d₂ : List ℕ} → k + length p ≡ at → at + length l ≤ length d → d₁ ≡ overAt k p d → d₂ ≡ overAt at l d₁ → d₂ ≡ overAt k (p ++ l) d
-then-at k at p l d e h u w = w ∙ ap (overAt at l) u ∙ row-at k at p l d e h
+then-at k at p l d e h u w = w ∙ ap (overAt at l) u ∙ row-at k at p l d e (omega arith)
 
 -- one byte
 pub byte : {a b : ℕ} → a ≡ b → a ∷ [] ≡ b ∷ []

@@ -1,0 +1,6 @@
+pub mod Names
+pub mod Operands
+pub mod Answers
+pub mod Readable
+pub mod Short
+pub mod Proved

@@ -1,0 +1,81 @@
+-- A padded name without its zeros is the name, and names are short: one computed test of the registers, and one of the mnemonics.
+-- Assumes nothing.
+use Prim.Native.Nat.{ℕ, zero, suc, _+_, _≤_}
+use Prim.Native.String.{String}
+use mathlib.Core.Path.{_≡_, ap, _∙_}
+use mathlib.Core.Bool.{Bool, _&&_}
+use mathlib.Core.List.{List, [], _∷_}
+use native.Mathlib.Omega.{arith}
+use lib.Dec.{T, leb, leb→le}
+use lib.ListN.{length, getD}
+use Rattle.reading.specs.Names.{mnemonics, nameOf}
+use Rattle.names.specs.Names.{letter, letters, padded, registers, registerBytes, nameBytes, same}
+use Rattle.names.proofs.Same.{same-eq}
+use Rattle.classes.proofs.Tests.{and-l, and-r}
+use Rattle.buffers.specs.Bytes.{placed}
+use Rattle.text.specs.Text.{beforeZero}
+use Rattle.text.specs.Writes.{Wrote}
+use Rattle.text.proofs.Rows.{wrote, first}
+use Rattle.line.specs.Line.{textOf, registerName}
+
+-- a name of at most so many letters, padded to `size` bytes
+abbrev isName : ℕ → ℕ → String → Bool
+isName size most s = same (beforeZero (padded size s)) (textOf s) && leb (length (textOf s)) most
+
+-- each of these, and the empty text, which stands for a name that is not there
+unfoldable areNames : ℕ → ℕ → List String → Bool
+areNames size most [] = isName size most ""
+areNames size most (s ∷ ss) = isName size most s && areNames size most ss
+
+module _ (size most : ℕ) where
+  each : (ss : List String) → T (areNames size most ss) → (k : ℕ) → T (isName size most (getD ss k ""))
+  unfolding areNames
+  each [] t k = t
+  each (s ∷ ss) t zero = and-l (isName size most s) (areNames size most ss) t
+  each (s ∷ ss) t (suc k) = each ss (and-r (isName size most s) (areNames size most ss) t) k
+
+  name-is : (s : String) → T (isName size most s) → beforeZero (padded size s) ≡ textOf s
+  name-is s t = same-eq (beforeZero (padded size s)) (textOf s) (and-l (same (beforeZero (padded size s)) (textOf s)) (leb (length (textOf s)) most) t)
+
+  name-short : (s : String) → T (isName size most s) → length (textOf s) ≤ most
+  name-short s t = leb→le (length (textOf s)) most (and-r (same (beforeZero (padded size s)) (textOf s)) (leb (length (textOf s)) most) t)
+
+-- ── registers ──
+
+all-registers : T (areNames 4 4 registers)
+unfolding areNames same beforeZero registers textOf padded letters letter
+all-registers = tt
+
+register-name : (r : ℕ) → beforeZero (registerBytes r) ≡ registerName r
+unfolding registerBytes registerName
+register-name r = name-is 4 4 (getD registers r "") (each 4 4 registers all-registers r)
+
+pub register-most : (r : ℕ) → length (registerName r) ≤ 4
+unfolding registerName
+register-most r = name-short 4 4 (getD registers r "") (each 4 4 registers all-registers r)
+
+-- ── mnemonics ──
+
+all-mnemonics : T (areNames 16 9 mnemonics)
+unfolding areNames same beforeZero mnemonics textOf padded letters letter
+all-mnemonics = tt
+
+mnemonic-name : (k : ℕ) → beforeZero (nameBytes k) ≡ textOf (nameOf k)
+unfolding nameBytes nameOf
+mnemonic-name k = name-is 16 9 (getD mnemonics k "") (each 16 9 mnemonics all-mnemonics k)
+
+pub mnemonic-most : (k : ℕ) → length (textOf (nameOf k)) ≤ 9
+unfolding nameOf
+mnemonic-most k = name-short 16 9 (getD mnemonics k "") (each 16 9 mnemonics all-mnemonics k)
+
+-- ── names that were written, without their zeros ──
+
+pub register-wrote : (r at : ℕ) (d : List ℕ) {n : ℕ} {b d′ : List ℕ} → b ≡ registerBytes r → at + 4 ≤ length d → n ≡ length (beforeZero b) → d′ ≡ placed at (beforeZero b) d → Wrote at 4 (registerName r) d d′ (at + n)
+register-wrote r at d {b = b} e h z w =
+    let p : beforeZero b ≡ registerName r = ap beforeZero e ∙ register-name r in
+    wrote (register-most r) (omega (arith, register-most r)) (z ∙ ap length p) (w ∙ ap (λ (l : List ℕ). placed at l d) p)
+
+pub mnemonic-wrote : (k : ℕ) (d : List ℕ) {n : ℕ} {b d′ : List ℕ} → b ≡ nameBytes k → 9 ≤ length d → n ≡ length (beforeZero b) → d′ ≡ placed 0 (beforeZero b) d → Wrote 0 9 (textOf (nameOf k)) d d′ n
+mnemonic-wrote k d {b = b} e h z w =
+    let p : beforeZero b ≡ textOf (nameOf k) = ap beforeZero e ∙ mnemonic-name k in
+    first (mnemonic-most k) (omega (arith, mnemonic-most k)) (z ∙ ap length p) (w ∙ ap (λ (l : List ℕ). placed 0 l d) p)

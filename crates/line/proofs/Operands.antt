@@ -1,0 +1,183 @@
+-- Operands one by one, as the code goes through them: what is left of them, whether they have registers, and what is printed of them.
+-- Assumes nothing.
+use Prim.Native.Nat.{ℕ, zero, suc, _+_, _*_, _-_, _^_, _≤_, _<_}
+use mathlib.Core.Path.{_≡_, refl, sym, ap, _∙_, subst}
+use mathlib.Core.Bool.{Bool, true, false, _&&_}
+use mathlib.Core.List.{List, [], _∷_, _++_, append-assoc, append-nil}
+use native.Mathlib.Numerals.{add-one}
+use native.Mathlib.Omega.{arith}
+use lib.Dec.{T, ltb, leb}
+use lib.IntN.{ℤ, pos, negsuc}
+use lib.Signed.{mag}
+use lib.ListN.{length, take, drop, getD}
+use lib.Seq.{slice-cons, slice-empty}
+use borrow.Author.Tests.{leb-true, ne-eqb}
+use mir.Facts.{toZ-ofZ}
+use mir.Val.{SFits, toZ, ofZ}
+use mir.Syntax.{w64}
+use Rattle.reading.specs.declared.Operand.{Operand}
+use Rattle.reading.specs.declared.Insn.{Insn}
+use Rattle.reading.specs.Kind.{many}
+use Rattle.reading.specs.Names.{nameOf}
+use Rattle.reading.specs.Reading.{unused}
+use Rattle.names.specs.Names.{letter, letters}
+use Rattle.buffers.specs.Bytes.{placed}
+use Rattle.text.specs.Text.{decimalOf}
+use Rattle.text.specs.Writes.{Wrote}
+use Rattle.text.proofs.Lengths.{decimal-most}
+use Rattle.text.proofs.Rows.{wrote, nothing, after, bound, kept}
+use Rattle.line.specs.Line.{textOf, opText, listed, used, lineOf, registered, allRegistered, printable}
+use Rattle.line.specs.Steps.{before}
+
+-- ── a signed number, as the code hands it on ──
+
+module _ (z : ℤ) (f : SFits w64 z) where
+  decimal-short : length (decimalOf z) ≤ 20
+  decimal-short = go z (f .sfits)
+    where
+      go : (z : ℤ) → mag z < 2 ^ 63 → length (decimalOf z) ≤ 20
+      go (pos n) h = decimal-most (pos n) (omega arith)
+      go (negsuc n) h = decimal-most (negsuc n) (omega arith)
+
+  pub decimal-wrote : (at : ℕ) (d : List ℕ) {n : ℕ} {d′ : List ℕ} → at + 20 ≤ length d → n ≡ length (decimalOf (toZ w64 (ofZ w64 z))) → d′ ≡ placed at (decimalOf (toZ w64 (ofZ w64 z))) d → Wrote at 20 (decimalOf z) d d′ (at + n)
+  decimal-wrote at d h e w = wrote decimal-short (omega (arith, decimal-short)) (rw (toZ-ofZ f) at e) (rw (toZ-ofZ f) at w)
+
+-- ── what is left after k of n operands ──
+
+abbrev pub rest : ℕ → ℕ → List Operand → List Operand
+rest k n ops = drop k (take n ops)
+
+rest-cons : (k n : ℕ) (ops : List Operand) → k < n → n ≤ length ops → rest k n ops ≡ getD ops k unused ∷ rest (k + 1) n ops
+rest-cons k n ops h m = slice-cons k n ops unused h m ∙ rw add-one
+
+-- ── registers ──
+
+and-true : (a b : Bool) → (a && b) ≡ true → (a ≡ true) × (b ≡ true)
+and-true true b e = (refl, e)
+and-true false b e = let z : ⊥ = subst T (sym e) tt in absurd z
+
+module _ (k n : ℕ) (ops : List Operand) (h : k < n) (m : n ≤ length ops) where
+  left-is : allRegistered (rest k n ops) ≡ (registered (getD ops k unused .op) && allRegistered (rest (k + 1) n ops))
+  unfolding allRegistered
+  left-is = rw (rest-cons k n ops h m)
+
+  -- the next operand has a register that there is not
+  pub stops : registered (getD ops k unused .op) ≡ false → allRegistered (rest k n ops) ≡ false
+  stops e = left-is ∙ rw e
+
+  -- it has one that there is, or none: what is left says the rest
+  pub goes-on : registered (getD ops k unused .op) ≡ true → allRegistered (rest k n ops) ≡ allRegistered (rest (k + 1) n ops)
+  goes-on e = left-is ∙ rw e
+
+  -- all have registers: the next, and what is left
+  pub both : allRegistered (rest k n ops) ≡ true → (registered (getD ops k unused .op) ≡ true) × (allRegistered (rest (k + 1) n ops) ≡ true)
+  both e = and-true _ _ (sym left-is ∙ e)
+
+-- no operand is left
+pub all-done : (n : ℕ) (ops : List Operand) → allRegistered (rest n n ops) ≡ true
+unfolding allRegistered
+all-done n ops = rw (slice-empty n ops)
+
+-- a reading that has a line has at most four operands, and their registers
+can : (i : Insn) → printable i ≡ true → (i .count ≤ 4) × (allRegistered (used i) ≡ true)
+unfolding printable
+can i e =
+    let a = and-true (ltb (i .mnemonic) many) (leb (i .count) 4 && allRegistered (used i)) e in
+    let b = and-true (leb (i .count) 4) (allRegistered (used i)) (a .1) in
+    (leb-true (i .count) 4 (b .0), b .1)
+
+-- ── what stands after k operands, from place at₀ on ──
+
+-- so many bytes at most: a comma, a space and 26 bytes for each operand, but the first has a space alone before it
+abbrev most : ℕ → ℕ
+most k = 28 * k - 1
+
+-- what stands before the next operand, and how long that is
+before-next : (k : ℕ) → before (k + 1) ≡ textOf ", "
+before-next k = rw (ne-eqb (k + 1) 0 (λ e. omega (arith, e)))
+
+most-next : (k : ℕ) → most k + length (before k) + 26 ≡ most (k + 1)
+unfolding textOf letters letter
+most-next zero = refl
+most-next (suc k) = rw (ne-eqb (suc k) 0 (λ e. omega (arith, e))) (omega arith)
+
+-- `done` was written to d₀, which gives d, and with what is left it is all that is to be written
+pub record Turn (ops : List Operand) (count : ℕ) (d₀ : List ℕ) (at₀ : ℕ) (d : List ℕ) (at k : ℕ) : Type 0 where
+  pub slots : length ops ≡ 4
+  pub four : count ≤ 4
+  pub size₀ : length d₀ ≡ 120
+  pub start : at₀ ≤ 9
+  pub high : k ≤ count
+  pub done : List ℕ
+  pub whole : done ++ listed (before k) (rest k count ops) ≡ listed (textOf " ") (take count ops)
+  pub left : allRegistered (rest k count ops) ≡ true
+  pub wrote : Wrote at₀ (most k) done d₀ d at
+
+-- the mnemonic stands there
+pub begins : (i : Insn) {d₀ d : List ℕ} {at : ℕ} → printable i ≡ true → length (i .ops) ≡ 4 → length d₀ ≡ 120 → Wrote 0 9 (textOf (nameOf (i .mnemonic))) d₀ d at → Turn (i .ops) (i .count) d at d at 0
+begins i p s z w =
+    record {
+      slots = s;
+      four = can i p .0;
+      size₀ = kept w (omega arith) ∙ z;
+      start = omega arith;
+      high = omega arith;
+      done = [];
+      whole = refl;
+      left = can i p .1;
+      wrote = nothing;
+    }
+
+regroup : (a b o l : List ℕ) → a ++ b ++ o ++ l ≡ a ++ (b ++ o ++ l)
+regroup a b o l = simp append-assoc
+
+module _ {ops : List Operand} {count : ℕ} {d₀ : List ℕ} {at₀ : ℕ} {d : List ℕ} {at k : ℕ} (t : Turn ops count d₀ at₀ d at k) where
+  -- none is left
+  pub ends : count ≤ k → Wrote at₀ 111 (listed (textOf " ") (take count ops)) d₀ d at
+  unfolding listed
+  ends h =
+      let e : k ≡ count = omega arith in
+      let none : rest k count ops ≡ [] = ap (λ (x : ℕ). rest x count ops) e ∙ slice-empty count ops in
+      let all : t .done ≡ listed (textOf " ") (take count ops) = sym (append-nil (t .done)) ∙ ap (λ (r : List Operand). t .done ++ listed (before k) r) (sym none) ∙ t .whole in
+      bound (omega arith) (subst (λ (l : List ℕ). Wrote at₀ (most k) l d₀ d at) all (t .wrote))
+
+  module _ (h : k < count) where
+    size : length d ≡ 120
+    size = kept (t .wrote) (omega arith) ∙ t .size₀
+
+    -- what stands before the next operand has room, and so has the operand
+    pub room : at + length (before k) + 26 ≤ length d
+    room = rw size (omega (arith, most-next k))
+
+    pub next-room : {d₁ : List ℕ} {next : ℕ} → Wrote at (length (before k)) (before k) d d₁ next → next + 26 ≤ length d₁
+    next-room a = rw (kept a (omega (arith, room))) (omega (arith, room))
+
+    pub next-registered : registered (getD ops k unused .op) ≡ true
+    next-registered = both k count ops h (omega arith) (t .left) .0
+
+    -- one operand more
+    pub turn : {d₁ d₂ : List ℕ} {next r : ℕ} → Wrote at (length (before k)) (before k) d d₁ next → Wrote next 26 (opText (getD ops k unused .op)) d₁ d₂ r → Turn ops count d₀ at₀ d₂ r (k + 1)
+    unfolding listed
+    turn {d₂ = d₂} {r = r} a b =
+        let o : List ℕ = opText (getD ops k unused .op) in
+        let row : Wrote at₀ (most k + length (before k) + 26) (t .done ++ before k ++ o) d₀ d₂ r = after (after (t .wrote) a (omega arith)) b (omega arith) in
+        record {
+          slots = t .slots;
+          four = t .four;
+          size₀ = t .size₀;
+          start = t .start;
+          high = omega arith;
+          done = t .done ++ before k ++ o;
+          whole =
+              ap (λ (p : List ℕ). t .done ++ before k ++ o ++ listed p (rest (k + 1) count ops)) (before-next k)
+              ∙ regroup (t .done) (before k) o (listed (textOf ", ") (rest (k + 1) count ops))
+              ∙ ap (λ (r : List Operand). t .done ++ listed (before k) r) (sym (rest-cons k count ops h (omega arith)))
+              ∙ t .whole;
+          left = both k count ops h (omega arith) (t .left) .1;
+          wrote = subst (λ (x : ℕ). Wrote at₀ x (t .done ++ before k ++ o) d₀ d₂ r) (most-next k) row;
+        }
+
+-- the mnemonic, and then the operands
+pub line-of : (i : Insn) {d d₁ d₂ : List ℕ} {at r : ℕ} → Wrote 0 9 (textOf (nameOf (i .mnemonic))) d d₁ at → Wrote at 111 (listed (textOf " ") (used i)) d₁ d₂ r → Wrote 0 120 (lineOf i) d d₂ r
+unfolding lineOf
+line-of i a b = after a b (omega arith)

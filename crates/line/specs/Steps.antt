@@ -1,0 +1,11 @@
+-- What the private functions answer. No public contract cites this file.
+-- Assumes nothing.
+use Prim.Native.Nat.{ℕ}
+use mathlib.Core.Bool.{cond}
+use mathlib.Core.List.{List}
+use lib.Dec.{eqb}
+use Rattle.line.specs.Line.{textOf}
+
+-- what stands before operand k
+abbrev pub before : ℕ → List ℕ
+before k = cond (eqb k 0) (textOf " ") (textOf ", ")

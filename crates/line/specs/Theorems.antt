@@ -1,0 +1,61 @@
+-- WHAT IS PROVED OF THE LINES. The proofs stand in proofs/Proved.antt.
+-- Assumes nothing.
+use Prim.Native.Nat.{ℕ, _^_, _-_, _≤_}
+use mathlib.Core.Path.{_≡_}
+use mathlib.Core.Bool.{Bool, true, false}
+use mathlib.Core.List.{List, [], _∷_}
+use lib.IntN.{negsuc}
+use lib.ListN.{length}
+use Rattle.reading.specs.declared.Op.the-variants.{Mem}
+use Rattle.reading.specs.declared.Operand.{Operand}
+use Rattle.reading.specs.declared.Flow.the-variants as flow
+use Rattle.reading.specs.declared.Effect.the-variants as effect
+use Rattle.reading.specs.declared.Target.the-variants as target
+use Rattle.reading.specs.declared.Insn.{Insn}
+use Rattle.reading.specs.Kind as kind
+use Rattle.reading.specs.Reading.{operand}
+use Rattle.classes.specs.Decoded.{decodedOf}
+use Rattle.line.specs.Line.{textOf, lineOf, printable}
+
+-- ── the longest line ──
+
+-- -9223372036854775808(zero)
+abbrev pub widest : Operand
+widest = operand (Mem (negsuc (2 ^ 63 - 1)) 0)
+
+-- a mnemonic of nine letters, and that operand four times
+abbrev pub longest : Insn
+longest =
+    record {
+      mnemonic = kind.trunc-w-s;
+      count = 4;
+      ops = widest ∷ widest ∷ widest ∷ widest ∷ [];
+      flow = flow.None;
+      target = target.None;
+      «delay_slot» = false;
+      effect = effect.None;
+    }
+
+-- ── document 01's lines ──
+
+-- the line of a word at an address
+abbrev pub lineAt : ℕ → ℕ → List ℕ
+lineAt w va = lineOf ((decodedOf w va false) .insn)
+
+-- at any address, but for the one with a target
+pub record Examples : Type 0 where
+  pub lui : (va : ℕ) → lineAt 0x3c048000 va ≡ textOf "lui a0, 32768"
+  pub jal : lineAt 0x0c000403 0x80001004 ≡ textOf "jal 0x8000100c"
+  pub lw : (va : ℕ) → lineAt 0x8c820010 va ≡ textOf "lw v0, 16(a0)"
+  pub jr : (va : ℕ) → lineAt 0x03e00008 va ≡ textOf "jr ra"
+  pub nop : (va : ℕ) → lineAt 0x00000000 va ≡ textOf "nop"
+  pub ins : (va : ℕ) → lineAt 0x7c821944 va ≡ textOf "ins v0, a0, 5, -1"
+
+pub record Theorems : Type 0 where
+  -- the reading of every word has a line, at any address and with either flag; a refused word's is the blank one
+  pub readable : (w va : ℕ) (wide : Bool) → printable ((decodedOf w va wide) .insn) ≡ true
+  -- that line has at most 120 bytes
+  pub short : (w va : ℕ) (wide : Bool) → length (lineOf ((decodedOf w va wide) .insn)) ≤ 120
+  -- there is a line of 120 bytes, so many as `print` asks for to take any line
+  pub tight : (printable longest ≡ true) × (length (lineOf longest) ≡ 120)
+  pub examples : Examples

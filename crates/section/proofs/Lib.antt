@@ -1,0 +1,4 @@
+pub mod Numbers
+pub mod Good
+pub mod Answers
+pub mod Proved

@@ -1,0 +1,159 @@
+// Numbers and names as text, into bytes that a caller lends. Stands on `buffers`.
+// Every function takes any place: the text is written where it has room, else nothing is; its length is the answer either way.
+ghost use mathlib.Core.Path.{_≡_};
+ghost use Prim.Native.Nat.{_-_, _≤_, _<_};
+ghost use lib.ListN.{length, drop};
+ghost use lib.IntN.{natAbs};
+ghost use Rattle.buffers.specs.Bytes.{placed};
+ghost use Rattle.text.specs.Text.{glyphOf, numeralOf, decimalOf, addressOf, hexOf, beforeZero};
+
+const DECIMAL: u64 = 10;
+
+const HEX: u64 = 16;
+
+// Room for the longest numeral, 2^64 - 1 in decimal, and for the two bytes that may stand before one.
+const ROOM: usize = 22;
+
+// ── numerals ──
+
+// The digit d; from ten on they are letters.
+fn glyph(d: u64) -> u8
+    requires { ⌜ d < 16 ⌝ }
+    ensures { λ r. ⌜ r ≡ glyphOf d ⌝ }
+{
+    if d < DECIMAL {
+        b'0' + d as u8
+    } else {
+        b'a' - 10 + d as u8
+    }
+}
+
+// The numeral of n, at the end of b; answers where it starts.
+fn spell(n: u64, base: u64, b: &mut [u8; 22]) -> usize
+    requires { ⌜ (1 < base) × (base ≤ 16) × (length (now b) ≡ 22) ⌝ }
+    ensures { λ r. ⌜ (2 ≤ r) × (r ≤ 22) × (length (now (b .exit)) ≡ 22) × (drop r (now (b .exit)) ≡ numeralOf base n) ⌝ }
+{
+    let mut i = ROOM - 1;
+    let mut rest = n / base;
+    b[i] = glyph(n % base);
+    while 0 < rest {
+        if i == 2 {
+            break;
+        }
+        i -= 1;
+        b[i] = glyph(rest % base);
+        rest /= base;
+    }
+    i
+}
+
+// A number in decimal.
+pub fn count(n: u64, out: &mut [u8], at: usize) -> usize
+    ensures { λ r. ⌜ r ≡ length (numeralOf 10 n) ⌝ }
+    ensures { λ _. ⌜ now (out .exit) ≡ placed at (numeralOf 10 n) (now (out .entry)) ⌝ }
+{
+    let mut b = [0u8; 22];
+    let start = spell(n, DECIMAL, &mut b);
+    buffers::put(&b[start..], out, at);
+    ROOM - start
+}
+
+// How far x is from 0.
+fn magnitude(x: i64) -> u64
+    ensures { λ r. ⌜ r ≡ natAbs x ⌝ }
+{
+    if x < 0 {
+        let below = !x;
+        below as u64 + 1
+    } else {
+        x as u64
+    }
+}
+
+// A signed number in decimal.
+pub fn decimal(x: i64, out: &mut [u8], at: usize) -> usize
+    ensures { λ r. ⌜ r ≡ length (decimalOf x) ⌝ }
+    ensures { λ _. ⌜ now (out .exit) ≡ placed at (decimalOf x) (now (out .entry)) ⌝ }
+{
+    let mut b = [0u8; 22];
+    let mut start = spell(magnitude(x), DECIMAL, &mut b);
+    if x < 0 {
+        start -= 1;
+        b[start] = b'-';
+    }
+    buffers::put(&b[start..], out, at);
+    ROOM - start
+}
+
+// An address: 0x and lower-case hex without leading zeros.
+pub fn address(a: u64, out: &mut [u8], at: usize) -> usize
+    ensures { λ r. ⌜ r ≡ length (addressOf a) ⌝ }
+    ensures { λ _. ⌜ now (out .exit) ≡ placed at (addressOf a) (now (out .entry)) ⌝ }
+{
+    let mut b = [0u8; 22];
+    let start = spell(a, HEX, &mut b) - 2;
+    b[start] = b'0';
+    b[start + 1] = b'x';
+    buffers::put(&b[start..], out, at);
+    ROOM - start
+}
+
+// ── digits in columns ──
+
+// The hex digits of n from column `from` of sixteen on.
+fn columns(n: u64, from: usize) -> [u8; 16]
+    requires { ⌜ from ≤ 16 ⌝ }
+    ensures { λ r. ⌜ drop from r ≡ hexOf (16 - from) n ⌝ }
+{
+    let mut b = [0u8; 16];
+    let mut i = 16;
+    let mut rest = n;
+    while from < i {
+        i -= 1;
+        b[i] = glyph(rest % HEX);
+        rest /= HEX;
+    }
+    b
+}
+
+// Sixteen hex digits.
+pub fn hex16(n: u64, out: &mut [u8], at: usize)
+    ensures { λ _. ⌜ now (out .exit) ≡ placed at (hexOf 16 n) (now (out .entry)) ⌝ }
+{
+    let b = columns(n, 0);
+    buffers::put(&b, out, at);
+}
+
+// Eight hex digits.
+pub fn hex8(n: u32, out: &mut [u8], at: usize)
+    ensures { λ _. ⌜ now (out .exit) ≡ placed at (hexOf 8 n) (now (out .entry)) ⌝ }
+{
+    let b = columns(n as u64, 8);
+    buffers::put(&b[8..], out, at);
+}
+
+// ── names ──
+
+// How many bytes stand before the first zero.
+fn letters(b: &[u8]) -> usize
+    ensures { λ r. ⌜ r ≡ length (beforeZero (now (b .entry))) ⌝ }
+{
+    let mut n = 0;
+    while n < b.len() {
+        if b[n] == 0 {
+            break;
+        }
+        n += 1;
+    }
+    n
+}
+
+// A name that is padded with zeros, without them.
+pub fn name(b: &[u8], out: &mut [u8], at: usize) -> usize
+    ensures { λ r. ⌜ r ≡ length (beforeZero (now (b .entry))) ⌝ }
+    ensures { λ _. ⌜ now (out .exit) ≡ placed at (beforeZero (now (b .entry))) (now (out .entry)) ⌝ }
+{
+    let n = letters(b);
+    buffers::put(&b[..n], out, at);
+    n
+}
