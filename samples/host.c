@@ -2,7 +2,7 @@
 
        host FILE ADDRESS big|little [wide]
 
-   For each word its address, the word and its mnemonic, or `refused N`. A word that stands in a delay slot is marked, and so is
+   For each word its address, the word and its line, or `refused N`. A word that stands in a delay slot is marked, and so is
    a word whose record has a smaller word: a patch that is encoded from the record would put that one in its place. */
 #include <inttypes.h>
 #include <stdio.h>
@@ -30,20 +30,28 @@ static uint32_t word_of(const uint8_t *bytes, int big)
     return word;
 }
 
-/* What came back: the mnemonic ends before its field does, so that it can be printed as text. */
+/* A line is bytes without a zero at their end. A word's record always has one, and there is room for any. */
+static void show_line(const uint8_t *record)
+{
+    uint8_t line[CALMUREDDA_LINE_BYTES];
+    size_t written;
+    calmuredda_line(record, CALMUREDDA_RECORD_BYTES, line, sizeof line, &written);
+    printf("%.*s", (int)written, (const char *)line);
+}
+
 static void show_record(struct listing *listing, const uint8_t *record, uint32_t word)
 {
-    printf("%s", (const char *)record + CALMUREDDA_AT_MNEMONIC);
+    show_line(record);
     if (listing->in_delay_slot) {
-        printf(", in a delay slot");
+        printf(" ; in a delay slot");
     }
     listing->in_delay_slot = (record[CALMUREDDA_AT_MARKS] & CALMUREDDA_DELAY_SLOT) != 0;
 
     uint64_t answer = calmuredda_encode(record, CALMUREDDA_RECORD_BYTES, listing->va, listing->wide);
     if (CALMUREDDA_NUMBER(answer) != CALMUREDDA_ACCEPTED) {
-        printf(", not encoded: %d", CALMUREDDA_NUMBER(answer)); /* never: it is a word's record */
+        printf(" ; not encoded: %d", CALMUREDDA_NUMBER(answer)); /* never: it is a word's record */
     } else if (CALMUREDDA_WORD(answer) != word) {
-        printf(", smallest %08" PRIx32, CALMUREDDA_WORD(answer));
+        printf(" ; smallest %08" PRIx32, CALMUREDDA_WORD(answer));
         listing->smaller++;
     }
     printf("\n");
@@ -51,7 +59,7 @@ static void show_record(struct listing *listing, const uint8_t *record, uint32_t
 
 static void show_refusal(struct listing *listing, uint8_t number)
 {
-    printf("refused %d%s\n", number, listing->in_delay_slot ? ", in a delay slot" : "");
+    printf("refused %d%s\n", number, listing->in_delay_slot ? " ; in a delay slot" : "");
     listing->in_delay_slot = 0;
 }
 

@@ -1,10 +1,11 @@
 -- WHAT THE HOST PROGRAM GETS, for every input: the answer, and every byte of the buffer that it lent. Crate `record` says what the packer
--- answers and leaves (packNumber, packed), and crate `decode` what bytes mean (decodedIn).
+-- answers and leaves (packNumber, packed), crate `decode` what bytes mean (decodedIn), crate `line` what printing gives, crates `section` and
+-- `listing` what files, blocks and pages are.
 -- Assumes nothing.
 use Prim.Native.Nat.{ℕ, _+_, _*_, _^_, _<_, _≤_}
 use mathlib.Core.Path.{_≡_}
-use mathlib.Core.Bool.{Bool, not}
-use mathlib.Core.List.{List}
+use mathlib.Core.Bool.{Bool, not, cond}
+use mathlib.Core.List.{List, []}
 use lib.Dec.{eqb}
 use lib.ListN.{length, take}
 use Rattle.word.specs.Word.{words}
@@ -12,6 +13,9 @@ use Rattle.reading.specs.declared.Decoded.{Decoded}
 use Rattle.classes.specs.Decoded.{decodedOf}
 use Rattle.decode.specs.Bytes.{decodedIn}
 use Rattle.record.specs.Record.{size, recordOf}
+use Rattle.record.specs.Unpacked.{unpacked}
+use Rattle.line.specs.Line.{printNumber, printed}
+use Rattle.listing.specs.declared.View.{View}
 
 -- a flag: 0 is off, any other number on
 abbrev pub on : ℕ → Bool
@@ -37,3 +41,14 @@ pub data EncodesRecord (l : List ℕ) (va : ℕ) (wide : Bool) (r : ℕ) : Type 
   short : length l < size → r ≡ answer 16 0 → EncodesRecord l va wide r
   smallest : size ≤ length l → (w : ℕ) → r ≡ answer 0 w → HasRecord l va wide w → ((v : ℕ) → HasRecord l va wide v → w ≤ v) → EncodesRecord l va wide r
   no-word : size ≤ length l → r ≡ answer 9 0 → ((v : ℕ) → ¬ HasRecord l va wide v) → EncodesRecord l va wide r
+
+-- the line of a record's reading, with so much room: what unpacking refuses, 16 or 9, comes first
+abbrev pub lineNumber : List ℕ → ℕ → ℕ
+lineNumber l room = cond (eqb (unpacked l .number) 0) (printNumber (unpacked l .insn) room) (unpacked l .number)
+
+abbrev pub lineBytes : List ℕ → ℕ → List ℕ
+lineBytes l room = cond (eqb (unpacked l .number) 0) (printed (unpacked l .insn) room) []
+
+-- how a body's words are read
+abbrev pub viewOf : ℕ → ℕ → ℕ → View
+viewOf va big wide = record { va = va; «big_endian» = on big; bits64 = on wide }

@@ -1,10 +1,17 @@
-// The boundary for programs in C: decoding and encoding through byte records. Every function that C may call is here, and nothing else;
-// include/calmuredda.h describes them for C. `rt staticlib calmuredda` makes libcalmuredda.a of this crate.
-// Stands on `decode`, `encode` and `record`; specs/Boundary.antt says what the answers mean.
+// The boundary for programs in C: decoding and encoding through byte records, printed lines, section files, blocks and pages. Every function
+// that C may call is here, and nothing else; include/calmuredda.h describes them for C. `rt staticlib calmuredda` makes libcalmuredda.a of this
+// crate. Stands on `decode`, `encode`, `record`, `line`, `section` and `listing`; specs/Boundary.antt says what the answers mean. Where an answer
+// is more than one number, C lends a place for each of the others, which is written whatever the answer is.
 ghost use mathlib.Core.Path.{_≡_};
 ghost use lib.ListN.{length};
+ghost use Rattle.buffers.specs.Bytes.{over, overAt};
 ghost use Rattle.record.specs.Record.{packNumber, packed};
-ghost use Rattle.calmuredda.specs.Boundary.{on, decodedFor, answer, EncodesRecord};
+ghost use Rattle.section.specs.Section.{checked, refusalOf, countOf, flagsOf, addressOf, startOf, sizeOf};
+ghost use Rattle.listing.specs.Block.{blockOf};
+ghost use Rattle.listing.specs.Page.{pageNumber, pageWords, pageBytes};
+ghost use Rattle.calmuredda.specs.Boundary.{on, decodedFor, answer, EncodesRecord, viewOf, lineNumber, lineBytes};
+use listing::View;
+
 // Where the number stands in the encoder's answer.
 const NUMBERS: u64 = 0x1_0000_0000;
 
@@ -42,4 +49,129 @@ fn both(number: u8, word: u32) -> u64
     ensures { λ r. ⌜ r ≡ answer number word ⌝ }
 {
     number as u64 * NUMBERS + word as u64
+}
+
+// ── the listing ──
+
+// The line of the reading whose record is in the first 80 bytes, to the start of `out`. Answers with the number: 16 for fewer bytes, 9 if they
+// are no reading's record, 10, 11; `written` is how many bytes the line has.
+#[no_mangle]
+pub extern "C" fn calmuredda_line(record: &[u8], out: &mut [u8], written: &mut usize) -> u8
+    ensures { λ r. ⌜ r ≡ lineNumber (now («record» .entry)) (length (now (out .entry))) ⌝ }
+    ensures { λ _. ⌜ now (written .exit) ≡ length (lineBytes (now («record» .entry)) (length (now (out .entry)))) ⌝ }
+    ensures { λ _. ⌜ now (out .exit) ≡ over (lineBytes (now («record» .entry)) (length (now (out .entry)))) (now (out .entry)) ⌝ }
+{
+    let d = record::unpack(record);
+    if d.number != 0 {
+        *written = 0;
+        return d.number;
+    }
+    let i = d.insn;
+    let p = line::print(i, out);
+    *written = p.length;
+    p.number
+}
+
+// 0 for a good section file; 12 or 13.
+#[no_mangle]
+pub extern "C" fn calmuredda_section_check(file: &[u8]) -> u8
+    ensures { λ r. ⌜ r ≡ checked (now (file .entry)) ⌝ }
+{
+    section::check(file)
+}
+
+// How many sections a good file has; 0 for another.
+#[no_mangle]
+pub extern "C" fn calmuredda_section_count(file: &[u8]) -> usize
+    ensures { λ r. ⌜ r ≡ countOf (now (file .entry)) ⌝ }
+{
+    section::count(file)
+}
+
+// The flags of a good file; 0 for another.
+#[no_mangle]
+pub extern "C" fn calmuredda_section_flags(file: &[u8]) -> u8
+    ensures { λ r. ⌜ r ≡ flagsOf (now (file .entry)) ⌝ }
+{
+    section::flags(file)
+}
+
+// The address of section n; 0 if it is refused.
+#[no_mangle]
+pub extern "C" fn calmuredda_section_address(file: &[u8], n: usize) -> u64
+    ensures { λ r. ⌜ r ≡ addressOf (now (file .entry)) n ⌝ }
+{
+    section::address(file, n)
+}
+
+// 0 and which part of the file is the body of section n; or 12, 13 or 14, and the empty part at the file's start.
+#[no_mangle]
+pub extern "C" fn calmuredda_section_body(
+    file: &[u8],
+    n: usize,
+    offset: &mut usize,
+    size: &mut usize,
+) -> u8
+    ensures { λ r. ⌜ r ≡ refusalOf (now (file .entry)) n ⌝ }
+    ensures { λ _. ⌜ now (offset .exit) ≡ startOf (now (file .entry)) n ⌝ }
+    ensures { λ _. ⌜ now (size .exit) ≡ sizeOf (now (file .entry)) n ⌝ }
+{
+    *offset = section::start(file, n);
+    *size = section::body(file, n).len();
+    section::refusal(file, n)
+}
+
+// The block of a body from word `index` on: 0, or 15; `kind` is how it ends, `words` how many words it has.
+#[no_mangle]
+pub extern "C" fn calmuredda_block(
+    body: &[u8],
+    va: u64,
+    big: u8,
+    wide: u8,
+    index: usize,
+    kind: &mut u8,
+    words: &mut usize,
+) -> u8
+    ensures { λ r. ⌜ r ≡ blockOf (viewOf va big wide) (now (body .entry)) index .number ⌝ }
+    ensures { λ _. ⌜ now (kind .exit) ≡ blockOf (viewOf va big wide) (now (body .entry)) index .kind ⌝ }
+    ensures { λ _. ⌜ now (words .exit) ≡ blockOf (viewOf va big wide) (now (body .entry)) index .words ⌝ }
+{
+    let b = listing::block(body, view(va, big, wide), index);
+    *kind = b.kind;
+    *words = b.words;
+    b.number
+}
+
+// The page of a body from word `index` on, into `out` from `place` on: 0, 15 or 11; `words` is how many words it has, `bytes` how many bytes.
+#[no_mangle]
+pub extern "C" fn calmuredda_page(
+    body: &[u8],
+    va: u64,
+    big: u8,
+    wide: u8,
+    index: usize,
+    out: &mut [u8],
+    place: usize,
+    words: &mut usize,
+    bytes: &mut usize,
+) -> u8
+    ensures { λ r. ⌜ r ≡ pageNumber (viewOf va big wide) (now (body .entry)) index (length (now (out .entry))) place ⌝ }
+    ensures { λ _. ⌜ now (words .exit) ≡ pageWords (viewOf va big wide) (now (body .entry)) index (length (now (out .entry))) place ⌝ }
+    ensures { λ _. ⌜ now (bytes .exit) ≡ length (pageBytes (viewOf va big wide) (now (body .entry)) index (length (now (out .entry))) place) ⌝ }
+    ensures { λ _. ⌜ now (out .exit) ≡ overAt place (pageBytes (viewOf va big wide) (now (body .entry)) index (length (now (out .entry))) place) (now (out .entry)) ⌝ }
+{
+    let p = listing::page(body, view(va, big, wide), index, out, place);
+    *words = p.words;
+    *bytes = p.bytes;
+    p.number
+}
+
+fn view(va: u64, big: u8, wide: u8) -> View
+    ensures { λ r. ⌜ r ≡ viewOf va big wide ⌝ }
+{
+    View {
+        va,
+        big_endian: big != 0,
+        bits64: wide != 0,
+    }
 }
