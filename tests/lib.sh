@@ -85,6 +85,12 @@ build_oracle() {
     rustc -O --edition 2021 -o "$2/oracle" "$1/main.rs" || failed "the driver does not build"
 }
 
+# have_oracle: can the driver be built? Where the answers are kept a test can do without; under CI build_oracle is left to say what
+# is missing.
+have_oracle() {
+    [ "${CI:-}" = true ] || command -v rustc >/dev/null 2>&1 || install_package rustc
+}
+
 # need_program PROGRAM: goes on if `rt` has built the program. Without it there
 # is nothing to compare; under CI `rt ci` has run before.
 need_program() {

@@ -1,0 +1,96 @@
+// Lists a section file from standard input on standard output. How a file is checked and what a line is are matters of the libraries
+// `section` and `listing`; here is only what stands around the lines. A write that fails ends the program.
+use listing::View;
+
+const INPUT: i32 = 0;
+
+const OUTPUT: i32 = 1;
+
+// A file that fills the buffer is too long.
+const FULL: usize = 65536;
+
+// The bytes of a word.
+const WORD: usize = 4;
+
+fn say(text: &[u8]) -> bool {
+    io::write_all(OUTPUT, text)
+}
+
+fn say_number(n: usize) -> bool {
+    io::print_decimal(OUTPUT, n as u64)
+}
+
+fn say_refused(number: u8) -> bool {
+    say(b"file refused ") && say_number(number as usize) && say(b"\n")
+}
+
+fn say_section(n: usize, words: usize) -> bool {
+    say(b"section ") && say_number(n) && say(b" words ") && say_number(words) && say(b"\n")
+}
+
+fn say_total(words: usize, refused: usize) -> bool {
+    say(b"words ") && say_number(words) && say(b" refused ") && say_number(refused) && say(b"\n")
+}
+
+// The lines of a body, page by page. Answers whether all were written.
+fn say_lines(body: &[u8], v: View) -> bool {
+    let words = body.len() / WORD;
+    let mut page = [b' '; 4096];
+    let mut n = 0;
+    while n < words {
+        let p = listing::page(body, v, n, &mut page, 0);
+        let bytes = p.bytes;
+        if !say(&page[..bytes]) {
+            return false;
+        }
+        n += p.words;
+    }
+    true
+}
+
+fn view(file: &[u8], n: usize) -> View {
+    let flags = section::flags(file);
+    View {
+        va: section::address(file, n),
+        big_endian: flags % section::WIDE == section::BIG_ENDIAN,
+        bits64: section::WIDE <= flags,
+    }
+}
+
+// All sections of a good file, and how many words they have.
+fn list(file: &[u8]) -> bool {
+    let count = section::count(file);
+    let mut words = 0;
+    let mut refused = 0;
+    let mut n = 0;
+    while n < count {
+        let body = section::body(file, n);
+        let v = view(file, n);
+        let many = body.len() / WORD;
+        if !say_section(n, many) {
+            return false;
+        }
+        if !say_lines(body, v) {
+            return false;
+        }
+        words += many;
+        refused += listing::refused(body, v);
+        n += 1;
+    }
+    say_total(words, refused)
+}
+
+fn main() {
+    let mut file = [0; 65536];
+    let n = io::read_full(INPUT, &mut file);
+    if n == FULL {
+        say_refused(section::BAD_HEADER);
+        return;
+    }
+    let number = section::check(&file[..n]);
+    if number != 0 {
+        say_refused(number);
+        return;
+    }
+    list(&file[..n]);
+}
