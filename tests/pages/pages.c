@@ -1,0 +1,727 @@
+/* Holds the library's section files, blocks, pages and lines against the answers on standard input, a line each; README.md says what
+   stands in them.
+
+   What a call reads lies in memory that cannot be written, between memory that cannot be touched at all, once up to the very end
+   and once at any alignment near the start. What it writes to lies inside a pattern, all of which is compared afterwards, and in
+   every second call up to the end of what can be touched. */
+#define _GNU_SOURCE
+#include <inttypes.h>
+#include <signal.h>
+#include <stdio.h>
+#include <stdlib.h>
+#include <string.h>
+#include <sys/mman.h>
+#include <unistd.h>
+
+#include "calmuredda.h"
+
+/* Once more, so that a header which says otherwise does not compile. */
+uint8_t calmuredda_line(const uint8_t *record, size_t record_len, uint8_t *out, size_t out_len, size_t *length);
+uint8_t calmuredda_section_check(const uint8_t *file, size_t file_len);
+size_t calmuredda_section_count(const uint8_t *file, size_t file_len);
+uint8_t calmuredda_section_flags(const uint8_t *file, size_t file_len);
+uint64_t calmuredda_section_address(const uint8_t *file, size_t file_len, size_t n);
+uint8_t calmuredda_section_body(const uint8_t *file, size_t file_len, size_t n, size_t *offset, size_t *length);
+uint8_t calmuredda_block(const uint8_t *body, size_t body_len, uint64_t va, uint8_t big, uint8_t wide, size_t index, uint8_t *kind,
+                         size_t *words);
+uint8_t calmuredda_page(const uint8_t *body, size_t body_len, uint64_t va, uint8_t big, uint8_t wide, size_t index, uint8_t *out,
+                        size_t out_len, size_t place, size_t *words, size_t *bytes);
+
+enum {
+    NO_READING = 9,
+    NO_ROOM = 11,
+    NO_SECTION = 14,
+    NO_WORD = 15,
+    SHORT_RECORD = 16,
+
+    WORD_BYTES = 4,
+    MOST_WORDS = 600,
+    MOST_SECTIONS = 64,
+    LONGEST_TEXT = 160,
+    LONGEST_LINE = 120,
+    LONGEST_SMALL_BUFFER = 200, /* every size up to this one is tried */
+    LONGEST_BUFFER = 5000,
+    SMALL_BODY = 12,            /* as many words have every index tried in every such buffer */
+    RANDOM_PAGES = 20000,
+    SHORT_RECORDS_EVERY = 16,
+
+    CANARY_BYTES = 64,
+    ALIGNMENTS = 16,
+    PATTERNS = 251,
+    LENT_BYTES = 1 << 17,       /* multiples of every page size that is in use */
+    AREA_BYTES = 1 << 16,
+    NULL_EVERY = 3,             /* how often an empty slice is null */
+    MOST_COMPLAINTS = 5
+};
+
+/* What the header's names stand for in document 01. */
+_Static_assert(CALMUREDDA_NO_WORD == 9 && CALMUREDDA_NO_LINE == 10 && CALMUREDDA_NO_ROOM == 11, "numbers of lines");
+_Static_assert(CALMUREDDA_BAD_HEADER == 12 && CALMUREDDA_BAD_RECORD == 13 && CALMUREDDA_NO_SECTION == 14, "numbers of files");
+_Static_assert(CALMUREDDA_NO_INDEX == 15 && CALMUREDDA_SHORT_RECORD == 16, "numbers of bodies and records");
+_Static_assert(CALMUREDDA_END_SLOT == 1 && CALMUREDDA_END_NO_SLOT == 2 && CALMUREDDA_END_REFUSED == 3 && CALMUREDDA_END_BODY == 4, "kinds");
+_Static_assert(CALMUREDDA_BIG_ENDIAN == 1 && CALMUREDDA_WIDE == 2, "flags");
+_Static_assert(CALMUREDDA_LINE_BYTES == 120 && CALMUREDDA_PAGE_LINE_BYTES == 147, "the longest lines");
+
+/* Sums and products with these pass 2^64. */
+static const size_t huge[] = {
+    (size_t)1 << 60, ((size_t)1 << 60) + 1, (size_t)1 << 61, (size_t)1 << 62, ((size_t)1 << 62) + 1, (size_t)1 << 63,
+    ((size_t)1 << 63) + 1, SIZE_MAX - 199, SIZE_MAX - 40, SIZE_MAX - 3, SIZE_MAX - 1, SIZE_MAX,
+};
+enum { HUGE = sizeof huge / sizeof huge[0] };
+
+/* A flag that is on is any number but 0. */
+static const uint8_t on_numbers[] = {1, 2, 128, 255};
+
+static uint64_t lines_read;
+static uint64_t calls;
+static uint64_t complaints;
+static uint64_t blocks_asked, pages_asked, lines_asked, files_asked;
+
+static void malformed(const char *what)
+{
+    printf("line %" PRIu64 " is malformed: %s\n", lines_read, what);
+    exit(EXIT_FAILURE);
+}
+
+static void complain(const char *what, uint64_t got, uint64_t wanted)
+{
+    printf("line %" PRIu64 ": %s %" PRIu64 ", wanted %" PRIu64 "\n", lines_read, what, got, wanted);
+    complaints++;
+    if (complaints == MOST_COMPLAINTS) {
+        printf("no more lines are looked at\n");
+        exit(EXIT_FAILURE);
+    }
+}
+
+static void same(const char *what, uint64_t got, uint64_t wanted)
+{
+    if (got != wanted) {
+        complain(what, got, wanted);
+    }
+}
+
+/* ── memory that is lent ── */
+
+static uint8_t *lent_writable;
+static const uint8_t *lent;
+static uint8_t *area;
+static uint8_t wanted_area[AREA_BYTES];
+static uint8_t pattern[AREA_BYTES + PATTERNS];
+
+static void need(int good, const char *what)
+{
+    if (!good) {
+        perror(what);
+        exit(EXIT_FAILURE);
+    }
+}
+
+static uint8_t *between_walls(size_t size)
+{
+    uint8_t *around = mmap(NULL, size + 2 * LENT_BYTES, PROT_NONE, MAP_PRIVATE | MAP_ANONYMOUS, -1, 0);
+    need(around != MAP_FAILED, "mmap");
+    return around + LENT_BYTES;
+}
+
+/* One file, mapped twice: here it is written, and what the library is given can only be read. */
+static void make_lent(void)
+{
+    int file = memfd_create("lent", 0);
+    need(file >= 0 && ftruncate(file, LENT_BYTES) == 0, "memfd_create");
+    lent_writable = mmap(NULL, LENT_BYTES, PROT_READ | PROT_WRITE, MAP_SHARED, file, 0);
+    lent = mmap(between_walls(LENT_BYTES), LENT_BYTES, PROT_READ, MAP_SHARED | MAP_FIXED, file, 0);
+    area = mmap(between_walls(AREA_BYTES), AREA_BYTES, PROT_READ | PROT_WRITE, MAP_PRIVATE | MAP_ANONYMOUS | MAP_FIXED, -1, 0);
+    need(lent_writable != MAP_FAILED && lent != MAP_FAILED && area != MAP_FAILED, "mmap");
+}
+
+/* All are odd, so that a zero which is written shows, and one which is not. */
+static void make_pattern(void)
+{
+    for (size_t i = 0; i < sizeof pattern; i++) {
+        pattern[i] = (uint8_t)(i * i + 5 * i + 1);
+    }
+}
+
+/* The bytes as the library is given them: up to the end in every second call, else near the start. */
+static const uint8_t *lend(const uint8_t *bytes, size_t length)
+{
+    size_t at = calls % 2 == 0 ? LENT_BYTES - length : calls / 2 % ALIGNMENTS;
+    if (length == 0 && calls % NULL_EVERY == 0) {
+        return NULL;
+    }
+    memcpy(lent_writable + at, bytes, length);
+    return lent + at;
+}
+
+/* A buffer inside the pattern, or at its end. */
+struct buffer {
+    uint8_t *bytes;
+    size_t size;
+    size_t first; /* what is compared of the area, and where the buffer begins in it */
+    size_t start;
+    size_t last;
+};
+
+static struct buffer lend_buffer(size_t size)
+{
+    struct buffer buffer = {.size = size};
+    if (calls % 2 == 0) {
+        buffer.start = CANARY_BYTES + calls / 2 % ALIGNMENTS;
+        buffer.last = buffer.start + size + CANARY_BYTES;
+    } else {
+        buffer.start = AREA_BYTES - size;
+        buffer.first = buffer.start - CANARY_BYTES;
+        buffer.last = AREA_BYTES;
+    }
+    buffer.bytes = size == 0 && calls % NULL_EVERY == 0 ? NULL : area + buffer.start;
+    memcpy(area + buffer.first, pattern + calls % PATTERNS, buffer.last - buffer.first);
+    return buffer;
+}
+
+/* The buffer holds the text at that place, and nothing else has changed. */
+static void check_buffer(const struct buffer *buffer, size_t place, const uint8_t *text, size_t length)
+{
+    size_t size = buffer->last - buffer->first;
+    memcpy(wanted_area, pattern + calls % PATTERNS, size);
+    if (length > 0) {
+        memcpy(wanted_area + (buffer->start - buffer->first) + place, text, length);
+    }
+    if (memcmp(area + buffer->first, wanted_area, size) == 0) {
+        return;
+    }
+    for (size_t i = 0; i < size; i++) {
+        if (area[buffer->first + i] != wanted_area[i]) {
+            char what[100];
+            ptrdiff_t at = (ptrdiff_t)(buffer->first + i) - (ptrdiff_t)buffer->start;
+            snprintf(what, sizeof what, "in a buffer of %zu bytes, from place %zu on, offset %td is", buffer->size, place, at);
+            complain(what, area[buffer->first + i], wanted_area[i]);
+            return;
+        }
+    }
+}
+
+/* The fault is in the library's code, so that nothing of stdio is half done. */
+static void on_fault(int number)
+{
+    dprintf(STDOUT_FILENO, "line %" PRIu64 ": signal %d, memory was touched that is not lent for it\n", lines_read, number);
+    _exit(EXIT_FAILURE);
+}
+
+/* ── columns ── */
+
+static char *rest;
+
+/* The next column, up to a space or the end. */
+static char *column(void)
+{
+    char *start = rest;
+    if (start == NULL || *start == '\0') {
+        malformed("a column is missing");
+    }
+    rest = strchr(start, ' ');
+    if (rest != NULL) {
+        *rest++ = '\0';
+    }
+    return start;
+}
+
+/* All that is left of the line, which may be nothing. */
+static const char *last_column(void)
+{
+    return rest == NULL ? "" : rest;
+}
+
+static uint64_t number_in(const char *text, int base, char **end)
+{
+    uint64_t value = strtoull(text, end, base);
+    if (*end == text) {
+        malformed("no number");
+    }
+    return value;
+}
+
+static uint64_t number_column(int base)
+{
+    char *end;
+    uint64_t value = number_in(column(), base, &end);
+    if (*end != '\0') {
+        malformed("no number");
+    }
+    return value;
+}
+
+static int digit(char c)
+{
+    if (c >= '0' && c <= '9') {
+        return c - '0';
+    }
+    if (c < 'a' || c > 'f') {
+        malformed("no hex digit");
+    }
+    return c - 'a' + 10;
+}
+
+/* Bytes in hex; .N. stands for N zeros, and - for no bytes. */
+static size_t bytes_column(uint8_t *to, size_t most)
+{
+    size_t length = 0;
+    char *text = column();
+    if (strcmp(text, "-") == 0) {
+        return 0;
+    }
+    while (*text != '\0') {
+        size_t zeros = *text == '.' ? (size_t)number_in(text + 1, 10, &text) : 0;
+        if (length + zeros + 1 > most + (zeros > 0)) {
+            malformed("too many bytes");
+        }
+        memset(to + length, 0, zeros);
+        length += zeros;
+        if (zeros > 0) {
+            text++;
+        } else {
+            to[length++] = (uint8_t)(digit(text[0]) * 16 + digit(text[1]));
+            text += 2;
+        }
+    }
+    return length;
+}
+
+/* ── bodies ── */
+
+static struct {
+    uint64_t va;
+    uint8_t big;
+    uint8_t wide;
+    uint8_t bytes[MOST_WORDS * WORD_BYTES];
+    size_t length;
+    size_t words;
+    size_t texts;                             /* as many lines have been read */
+    size_t starts[MOST_WORDS + 1];            /* where each line begins in `text` */
+    uint8_t text[MOST_WORDS * LONGEST_TEXT];
+} body;
+
+static void read_body(void)
+{
+    body.va = number_column(16);
+    body.big = (uint8_t)number_column(10);
+    body.wide = (uint8_t)number_column(10);
+    body.length = bytes_column(body.bytes, sizeof body.bytes);
+    body.words = body.length / WORD_BYTES;
+    body.texts = 0;
+}
+
+static uint8_t flag(uint8_t flag_is_on)
+{
+    return flag_is_on ? on_numbers[calls % sizeof on_numbers] : 0;
+}
+
+/* ── blocks ── */
+
+struct answer {
+    uint8_t number;
+    uint8_t kind;
+    size_t words;
+};
+
+static void check_block(size_t index, struct answer wanted)
+{
+    for (int twice = 0; twice < 2; twice++) {
+        uint8_t kind = 99;
+        size_t words = 99;
+        uint8_t number = calmuredda_block(lend(body.bytes, body.length), body.length, body.va, flag(body.big), flag(body.wide), index,
+                                          &kind, &words);
+        calls++;
+        same("a block's number is", number, wanted.number);
+        same("a block's end kind is", kind, wanted.kind);
+        same("a block's words are", words, wanted.words);
+    }
+    blocks_asked++;
+}
+
+static struct answer read_answer(char **text)
+{
+    struct answer answer;
+    answer.number = (uint8_t)number_in(*text, 10, text);
+    answer.kind = (uint8_t)number_in(*text + 1, 10, text);
+    answer.words = (size_t)number_in(*text + 1, 10, text);
+    return answer;
+}
+
+/* `blocks`: an answer for each index; the last is that of all indexes from there on. */
+static void blocks_line(void)
+{
+    read_body();
+    char *text = column();
+    struct answer answer = read_answer(&text);
+    size_t index = 0;
+    for (; *text == ','; index++) {
+        check_block(index, answer);
+        text++;
+        answer = read_answer(&text);
+    }
+    if (*text != '\0' || index != body.words) {
+        malformed("not an answer for each index");
+    }
+    for (size_t more = 0; more < 2; more++) {
+        check_block(index + more, answer);
+    }
+    for (int i = 0; i < HUGE; i++) {
+        check_block(huge[i], answer);
+    }
+}
+
+/* ── pages ── */
+
+/* What is wanted of a page, of the rule: the longest run of whole lines that fits. */
+static uint8_t wanted_page(size_t index, size_t size, size_t place, size_t *words, size_t *bytes)
+{
+    size_t room = place > size ? 0 : size - place;
+    *words = 0;
+    *bytes = 0;
+    if (index >= body.words) {
+        return NO_WORD;
+    }
+    while (index + *words < body.words && body.starts[index + *words + 1] - body.starts[index] <= room) {
+        (*words)++;
+    }
+    *bytes = body.starts[index + *words] - body.starts[index];
+    return *words == 0 ? NO_ROOM : 0;
+}
+
+static void check_page(size_t index, size_t size, size_t place)
+{
+    size_t wanted_words, wanted_bytes;
+    uint8_t wanted = wanted_page(index, size, place, &wanted_words, &wanted_bytes);
+    size_t words = 99, bytes = 99;
+    struct buffer buffer = lend_buffer(size);
+    uint8_t number = calmuredda_page(lend(body.bytes, body.length), body.length, body.va, flag(body.big), flag(body.wide), index,
+                                     buffer.bytes, size, place, &words, &bytes);
+    same("a page's number is", number, wanted);
+    same("a page's words are", words, wanted_words);
+    same("a page's bytes are", bytes, wanted_bytes);
+    check_buffer(&buffer, place, wanted_bytes > 0 ? body.text + body.starts[index] : body.text, wanted_bytes);
+    calls++;
+    pages_asked++;
+}
+
+static void every_place(size_t index, size_t size)
+{
+    for (size_t place = 0; place <= size + 2; place++) {
+        check_page(index, size, place);
+    }
+    for (int i = 0; i < HUGE; i++) {
+        check_page(index, size, huge[i]);
+    }
+}
+
+static void every_page(void)
+{
+    for (size_t size = 0; size <= LONGEST_SMALL_BUFFER; size++) {
+        for (size_t index = 0; index <= body.words + 1; index++) {
+            every_place(index, size);
+        }
+        for (int i = 0; i < HUGE; i++) {
+            check_page(huge[i], size, size / 2);
+            check_page(huge[i], size, huge[i]);
+        }
+    }
+}
+
+/* The generator splitmix64. */
+static uint64_t below(uint64_t limit)
+{
+    static uint64_t state = 20261115;
+    uint64_t z = state += 0x9e3779b97f4a7c15;
+    z = (z ^ (z >> 30)) * 0xbf58476d1ce4e5b9;
+    z = (z ^ (z >> 27)) * 0x94d049bb133111eb;
+    return (z ^ (z >> 31)) % limit;
+}
+
+static void random_pages(void)
+{
+    for (int i = 0; i < RANDOM_PAGES; i++) {
+        size_t size = below(below(2) ? LONGEST_BUFFER : LONGEST_SMALL_BUFFER);
+        size_t place = below(below(2) ? size + 3 : size / 8 + 1);
+        check_page(below(body.words + 1), size, place);
+    }
+}
+
+/* When the last text of a body is known. */
+static void try_pages(void)
+{
+    if (body.words <= SMALL_BODY) {
+        every_page();
+    } else {
+        random_pages();
+    }
+}
+
+/* `pages`: a body; as many lines `text` follow as it has words. */
+static void pages_line(void)
+{
+    read_body();
+    if (body.words == 0) {
+        try_pages();
+    }
+}
+
+static void text_line(void)
+{
+    const char *text = last_column();
+    size_t length = strlen(text);
+    size_t start = body.starts[body.texts];
+    if (body.texts == body.words || length >= LONGEST_TEXT) {
+        malformed("no word for this text");
+    }
+    memcpy(body.text + start, text, length);
+    body.text[start + length] = '\n';
+    body.texts++;
+    body.starts[body.texts] = start + length + 1;
+    if (body.texts == body.words) {
+        try_pages();
+    }
+}
+
+/* `page`: an answer of the model, against which the rule above is held, before the library is. */
+static void page_line(void)
+{
+    size_t index = number_column(10), size = number_column(10), place = number_column(10);
+    size_t words, bytes;
+    uint8_t number = wanted_page(index, size, place, &words, &bytes);
+    if (number != number_column(10) || words != number_column(10) || bytes != number_column(10)) {
+        malformed("the rule gives another page than the model");
+    }
+    check_page(index, size, place);
+}
+
+/* ── lines ── */
+
+static void check_room(const uint8_t *record, size_t record_len, size_t room, uint8_t number, const char *text)
+{
+    size_t wanted = number == 0 ? strlen(text) : 0;
+    size_t length = 99;
+    struct buffer buffer = lend_buffer(room);
+    uint8_t got = calmuredda_line(lend(record, record_len), record_len, buffer.bytes, room, &length);
+    if (number == 0 && wanted > room) {
+        number = NO_ROOM;
+        wanted = 0;
+    }
+    same("a line's number is", got, number);
+    same("a line's length is", length, wanted);
+    check_buffer(&buffer, 0, (const uint8_t *)text, wanted);
+    calls++;
+}
+
+/* Every length of the record that is too short, and some that are longer than it needs to be. */
+static void check_lengths(const uint8_t *record, uint8_t number, const char *text)
+{
+    static uint8_t longer[LONGEST_SMALL_BUFFER];
+    memcpy(longer, record, CALMUREDDA_RECORD_BYTES);
+    memset(longer + CALMUREDDA_RECORD_BYTES, (int)below(256), sizeof longer - CALMUREDDA_RECORD_BYTES);
+    for (size_t length = 0; length < CALMUREDDA_RECORD_BYTES; length++) {
+        check_room(longer, length, length % 2 ? LONGEST_LINE : 0, SHORT_RECORD, "");
+    }
+    check_room(longer, CALMUREDDA_RECORD_BYTES + 1, LONGEST_LINE, number, text);
+    check_room(longer, sizeof longer, LONGEST_LINE, number, text);
+}
+
+static void check_rooms(const uint8_t *record, uint8_t number, const char *text)
+{
+    for (size_t room = 0; room <= LONGEST_LINE + 1; room++) {
+        check_room(record, CALMUREDDA_RECORD_BYTES, room, number, text);
+    }
+    if (lines_asked % SHORT_RECORDS_EVERY == 0) {
+        check_lengths(record, number, text);
+    }
+    lines_asked++;
+}
+
+/* `line`: a record, the number and the line. */
+static void line_line(void)
+{
+    uint8_t record[CALMUREDDA_RECORD_BYTES];
+    if (bytes_column(record, sizeof record) != sizeof record) {
+        malformed("no record");
+    }
+    uint8_t number = (uint8_t)number_column(10);
+    check_rooms(record, number, last_column());
+}
+
+/* `word`: flag, address, word, its number and its line; the library makes the record. */
+static void word_line(void)
+{
+    uint8_t record[CALMUREDDA_RECORD_BYTES];
+    uint8_t wide = (uint8_t)number_column(10);
+    uint64_t va = number_column(16);
+    uint32_t word = (uint32_t)number_column(16);
+    uint8_t number = (uint8_t)number_column(10);
+    uint8_t bytes[WORD_BYTES];
+    memcpy(bytes, &word, sizeof bytes);
+    same("the decoder's number is", calmuredda_decode(bytes, sizeof bytes, va, 0, wide, record, sizeof record), number);
+    /* A refusal's record is no reading's. */
+    check_rooms(record, number == 0 ? 0 : NO_READING, last_column());
+}
+
+/* ── section files ── */
+
+static struct {
+    uint8_t bytes[LENT_BYTES];
+    size_t length;
+    uint8_t number;
+    uint8_t flags;
+    size_t count;
+    struct section {
+        uint64_t address;
+        size_t offset;
+        size_t length;
+    } sections[MOST_SECTIONS];
+} file;
+
+/* FLAGS:ADDRESS+OFFSET+LENGTH,.. of a good file. */
+static void read_sections(char *text)
+{
+    file.flags = (uint8_t)number_in(text, 10, &text);
+    for (file.count = 0; *text == (file.count == 0 ? ':' : ','); file.count++) {
+        if (file.count == MOST_SECTIONS) {
+            malformed("too many sections");
+        }
+        struct section *section = &file.sections[file.count];
+        section->address = number_in(text + 1, 16, &text);
+        section->offset = (size_t)number_in(text + 1, 10, &text);
+        section->length = (size_t)number_in(text + 1, 10, &text);
+    }
+    if (*text != '\0' || file.count == 0) {
+        malformed("no sections");
+    }
+}
+
+static void read_file(void)
+{
+    column();
+    file.length = bytes_column(file.bytes, sizeof file.bytes);
+    char *text = column();
+    file.number = 0;
+    file.flags = 0;
+    file.count = 0;
+    if (strchr(text, ':') != NULL) {
+        read_sections(text);
+    } else {
+        file.number = (uint8_t)number_in(text, 10, &text);
+    }
+}
+
+static void check_section(const uint8_t *bytes, size_t n)
+{
+    struct section none = {0, 0, 0};
+    const struct section *wanted = n < file.count ? &file.sections[n] : &none;
+    size_t offset = 99, length = 99;
+    uint8_t number = calmuredda_section_body(bytes, file.length, n, &offset, &length);
+    uint8_t wanted_number = file.number == 0 && n >= file.count ? NO_SECTION : file.number;
+    same("a section's number is", number, wanted_number);
+    same("a section's offset is", offset, wanted->offset);
+    same("a section's length is", length, wanted->length);
+    same("a section's address is", calmuredda_section_address(bytes, file.length, n), wanted->address);
+}
+
+/* `file`: a section file and what is known of it. */
+static void file_line(void)
+{
+    read_file();
+    for (int twice = 0; twice < 2; twice++) {
+        const uint8_t *bytes = lend(file.bytes, file.length);
+        same("the file's number is", calmuredda_section_check(bytes, file.length), file.number);
+        same("the file's count is", calmuredda_section_count(bytes, file.length), file.count);
+        same("the file's flags are", calmuredda_section_flags(bytes, file.length), file.flags);
+        for (size_t n = 0; n <= MOST_SECTIONS + 1; n++) {
+            check_section(bytes, n);
+        }
+        for (int i = 0; i < HUGE; i++) {
+            check_section(bytes, huge[i]);
+        }
+        calls++;
+    }
+    files_asked++;
+}
+
+/* ── document 01's example, whatever the input has ── */
+
+static const uint8_t scope_body[] = {
+    0x3c, 0x04, 0x80, 0x00, 0x0c, 0x00, 0x04, 0x03, 0x8c, 0x82, 0x00, 0x10, 0x03, 0xe0, 0x00, 0x08, 0x00, 0x00, 0x00, 0x00, 0x7c, 0x00, 0x00, 0x01,
+};
+static const char *const scope_lines[] = {
+    "0000000080001000 3c048000 lui a0, 32768", "0000000080001004 0c000403 jal 0x8000100c", "0000000080001008 8c820010 lw v0, 16(a0)",
+    "000000008000100c 03e00008 jr ra",         "0000000080001010 00000000 nop",            "0000000080001014 7c000001 refused 8",
+};
+enum { SCOPE_WORDS = sizeof scope_lines / sizeof scope_lines[0] };
+
+static void check_scope(void)
+{
+    body.va = 0x80001000;
+    body.big = 1;
+    body.wide = 0;
+    body.length = sizeof scope_body;
+    body.words = SCOPE_WORDS;
+    body.texts = 0;
+    memcpy(body.bytes, scope_body, sizeof scope_body);
+    check_block(0, (struct answer){0, 1, 3});
+    check_block(3, (struct answer){0, 1, 2});
+    check_block(5, (struct answer){0, 3, 0});
+    check_block(6, (struct answer){NO_WORD, 0, 0});
+    for (int i = 0; i < SCOPE_WORDS; i++) {
+        char text[LONGEST_TEXT];
+        snprintf(text, sizeof text, "%s", scope_lines[i]);
+        rest = text;
+        text_line();
+    }
+}
+
+/* ── the lines of the input ── */
+
+static const struct {
+    const char *name;
+    void (*check)(void);
+} kinds[] = {
+    {"blocks", blocks_line}, {"pages", pages_line}, {"text", text_line}, {"page", page_line},
+    {"line", line_line},     {"word", word_line},   {"file", file_line},
+};
+enum { KINDS = sizeof kinds / sizeof kinds[0] };
+
+static void check_input_line(void)
+{
+    const char *name = column();
+    for (int i = 0; i < KINDS; i++) {
+        if (strcmp(name, kinds[i].name) == 0) {
+            kinds[i].check();
+            return;
+        }
+    }
+    malformed(name);
+}
+
+int main(void)
+{
+    struct sigaction fault = {.sa_handler = on_fault};
+    char *line = NULL;
+    size_t room = 0;
+    ssize_t length;
+    sigaction(SIGSEGV, &fault, NULL);
+    sigaction(SIGBUS, &fault, NULL);
+    make_lent();
+    make_pattern();
+    check_scope();
+    while ((length = getline(&line, &room, stdin)) > 0) {
+        lines_read++;
+        if (line[length - 1] == '\n') {
+            line[length - 1] = '\0';
+        }
+        rest = line;
+        check_input_line();
+    }
+    free(line);
+    if (complaints > 0) {
+        return EXIT_FAILURE;
+    }
+    printf("%" PRIu64 " blocks, %" PRIu64 " pages, %" PRIu64 " records in every room, %" PRIu64 " section files\n", blocks_asked,
+           pages_asked, lines_asked, files_asked);
+    return EXIT_SUCCESS;
+}

@@ -1,0 +1,251 @@
+/* Stands between the test and the library (the linker's --wrap) and makes one of the mistakes below, by the number in the
+   environment's MISTAKE: the test has to notice each. */
+#include <stdint.h>
+#include <stdio.h>
+#include <stdlib.h>
+#include <string.h>
+
+#include "calmuredda.h"
+
+/* `run` counts up to the last. */
+enum {
+    BLOCK_INDEX_WRAPS = 1,     /* four times the index is taken modulo 2^64 */
+    BLOCK_BIG_IS_ONE,          /* other numbers than 1 are off */
+    BLOCK_SLOT_COUNTED,        /* that which is refused or absent */
+    BLOCK_REFUSED_COUNTED,
+    BLOCK_KIND_OF_REFUSAL,     /* not 0 where the index is refused */
+    BLOCK_REST_IS_DROPPED,     /* the last word too, where bytes follow it */
+    BLOCK_READS_AFTER_BODY,
+    PAGE_INDEX_WRAPS,
+    PAGE_PLACE_WRAPS,
+    PAGE_PLACE_BEFORE_INDEX,   /* 11 and not 15 where both are too large */
+    PAGE_LAST_BYTE_FREE,       /* a line that fits to the byte is left out */
+    PAGE_WRITES_AFTER_LINES,   /* inside the buffer */
+    PAGE_WRITES_BEFORE_PLACE,
+    PAGE_WRITES_ON_REFUSAL,
+    PAGE_SPACES_BELOW,         /* a true first line, mere spaces in the second */
+    PAGE_WIDE_IS_ONE,
+    PAGE_ADDRESS_OF_32_BITS,
+    PAGE_BYTES_OF_BUFFER,      /* the place is counted too */
+    PAGE_READS_AFTER_BODY,
+    PAGE_WRITES_BODY,
+    LINE_LAST_BYTE_FREE,
+    LINE_ENDS_WITH_ZERO,       /* where there is room */
+    LINE_ROOM_FIRST,           /* 11 before 9 and 10 */
+    LINE_REGISTER_32,          /* printed as register 0 */
+    LINE_COUNT_OF_4_BITS,
+    LINE_LENGTH_OF_REFUSAL,    /* not 0 */
+    LINE_SHORT_IS_9,
+    LINE_LONGER_IS_9,
+    LINE_ANY_EFFECT,           /* what the line does not show is not looked at */
+    LINE_READS_AFTER_RECORD,
+    SECTION_NUMBER_FIRST,      /* 14 before 12 and 13 */
+    SECTION_NUMBER_WRAPS,      /* 16 times the number is taken modulo 2^64 */
+    SECTION_FLAGS_OF_BAD_FILE,
+    SECTION_COUNT_OF_BAD_FILE,
+    SECTION_ADDRESS_OF_32_BITS,
+    SECTION_PART_OF_REFUSAL,   /* not empty */
+    SECTION_CHECK_STOPS,       /* 13 where 12 is right */
+    LAST = SECTION_CHECK_STOPS
+};
+
+enum { FLAGS_AT = 2, WORD_BYTES = 4 };
+
+uint8_t __real_calmuredda_line(const uint8_t *, size_t, uint8_t *, size_t, size_t *);
+uint8_t __real_calmuredda_section_check(const uint8_t *, size_t);
+size_t __real_calmuredda_section_count(const uint8_t *, size_t);
+uint8_t __real_calmuredda_section_flags(const uint8_t *, size_t);
+uint64_t __real_calmuredda_section_address(const uint8_t *, size_t, size_t);
+uint8_t __real_calmuredda_section_body(const uint8_t *, size_t, size_t, size_t *, size_t *);
+uint8_t __real_calmuredda_block(const uint8_t *, size_t, uint64_t, uint8_t, uint8_t, size_t, uint8_t *, size_t *);
+uint8_t __real_calmuredda_page(const uint8_t *, size_t, uint64_t, uint8_t, uint8_t, size_t, uint8_t *, size_t, size_t, size_t *, size_t *);
+uint8_t __wrap_calmuredda_line(const uint8_t *, size_t, uint8_t *, size_t, size_t *);
+uint8_t __wrap_calmuredda_section_check(const uint8_t *, size_t);
+size_t __wrap_calmuredda_section_count(const uint8_t *, size_t);
+uint8_t __wrap_calmuredda_section_flags(const uint8_t *, size_t);
+uint64_t __wrap_calmuredda_section_address(const uint8_t *, size_t, size_t);
+uint8_t __wrap_calmuredda_section_body(const uint8_t *, size_t, size_t, size_t *, size_t *);
+uint8_t __wrap_calmuredda_block(const uint8_t *, size_t, uint64_t, uint8_t, uint8_t, size_t, uint8_t *, size_t *);
+uint8_t __wrap_calmuredda_page(const uint8_t *, size_t, uint64_t, uint8_t, uint8_t, size_t, uint8_t *, size_t, size_t, size_t *, size_t *);
+
+static int mistake(void)
+{
+    static int number;
+    const char *text = getenv("MISTAKE");
+    if (number == 0 && text != NULL) {
+        number = atoi(text);
+    }
+    if (number < 1 || number > LAST) {
+        printf("MISTAKE is a number from 1 to %d\n", LAST);
+        exit(EXIT_FAILURE);
+    }
+    return number;
+}
+
+static int is(int number)
+{
+    return mistake() == number;
+}
+
+/* Reads behind what is lent, or writes where only reading is lent. */
+static void read_after(const uint8_t *bytes, size_t length)
+{
+    if (bytes != NULL) {
+        (void)((const volatile uint8_t *)bytes)[length];
+    }
+}
+
+static void write_to(const uint8_t *bytes, size_t length)
+{
+    if (length > 0) {
+        *(volatile uint8_t *)(uintptr_t)bytes = bytes[0];
+    }
+}
+
+/* What is left of a number whose product with 2^bits is taken modulo 2^64. */
+static size_t wrapped(size_t number, int bits)
+{
+    return number << bits >> bits;
+}
+
+/* ── blocks and pages ── */
+
+uint8_t __wrap_calmuredda_block(const uint8_t *body, size_t body_len, uint64_t va, uint8_t big, uint8_t wide, size_t index,
+                                uint8_t *kind, size_t *words)
+{
+    if (is(BLOCK_READS_AFTER_BODY)) {
+        read_after(body, body_len);
+    }
+    if (is(BLOCK_REST_IS_DROPPED) && body_len > WORD_BYTES && body_len % WORD_BYTES > 0) {
+        body_len -= WORD_BYTES;
+    }
+    index = is(BLOCK_INDEX_WRAPS) ? wrapped(index, 2) : index;
+    big = is(BLOCK_BIG_IS_ONE) ? big == 1 : big;
+    uint8_t number = __real_calmuredda_block(body, body_len, va, big, wide, index, kind, words);
+    *words += (is(BLOCK_SLOT_COUNTED) && *kind == CALMUREDDA_END_NO_SLOT) || (is(BLOCK_REFUSED_COUNTED) && *kind == CALMUREDDA_END_REFUSED);
+    *kind += is(BLOCK_KIND_OF_REFUSAL) && number != 0;
+    return number;
+}
+
+/* Spoils a page that was written. */
+static void spoil(uint8_t *out, size_t out_len, size_t place, size_t words, size_t bytes)
+{
+    if (is(PAGE_WRITES_AFTER_LINES) && place + bytes < out_len) {
+        out[place + bytes] ^= 1;
+    }
+    if (is(PAGE_WRITES_BEFORE_PLACE) && place > 0) {
+        out[place - 1] ^= 1;
+    }
+    if (is(PAGE_SPACES_BELOW) && words > 1) {
+        uint8_t *second = (uint8_t *)memchr(out + place, '\n', bytes) + 1;
+        memset(second, ' ', bytes - (size_t)(second - out - place) - 1);
+    }
+}
+
+uint8_t __wrap_calmuredda_page(const uint8_t *body, size_t body_len, uint64_t va, uint8_t big, uint8_t wide, size_t index,
+                               uint8_t *out, size_t out_len, size_t place, size_t *words, size_t *bytes)
+{
+    if (is(PAGE_READS_AFTER_BODY)) {
+        read_after(body, body_len);
+    }
+    if (is(PAGE_WRITES_BODY)) {
+        write_to(body, body_len);
+    }
+    if (is(PAGE_PLACE_BEFORE_INDEX) && place > out_len) {
+        *words = *bytes = 0;
+        return CALMUREDDA_NO_ROOM;
+    }
+    index = is(PAGE_INDEX_WRAPS) ? wrapped(index, 2) : index;
+    place = is(PAGE_PLACE_WRAPS) ? wrapped(place, 1) : place;
+    wide = is(PAGE_WIDE_IS_ONE) ? wide == 1 : wide;
+    va = is(PAGE_ADDRESS_OF_32_BITS) ? (uint32_t)va : va;
+    out_len -= is(PAGE_LAST_BYTE_FREE) && out_len > 0;
+    uint8_t number = __real_calmuredda_page(body, body_len, va, big, wide, index, out, out_len, place, words, bytes);
+    if (number == 0) {
+        spoil(out, out_len, place, *words, *bytes);
+        *bytes += is(PAGE_BYTES_OF_BUFFER) ? place : 0;
+    } else if (is(PAGE_WRITES_ON_REFUSAL) && out_len > 0) {
+        out[0] ^= 1;
+    }
+    return number;
+}
+
+/* ── lines ── */
+
+/* The call is made with another record: a mistake in what the library looks at. */
+static uint8_t line_of_other(const uint8_t *record, uint8_t *out, size_t out_len, size_t *length)
+{
+    uint8_t copy[CALMUREDDA_RECORD_BYTES];
+    memcpy(copy, record, sizeof copy);
+    for (int k = 0; k < CALMUREDDA_OPERANDS; k++) {
+        uint8_t *operand = copy + CALMUREDDA_AT_OPERAND(k);
+        if (is(LINE_REGISTER_32) && operand[CALMUREDDA_IN_REGISTER] == 32) {
+            operand[CALMUREDDA_IN_REGISTER] = 0;
+        }
+    }
+    if (is(LINE_COUNT_OF_4_BITS)) {
+        copy[CALMUREDDA_AT_COUNT] &= 15;
+    }
+    if (is(LINE_ANY_EFFECT)) {
+        memset(copy + CALMUREDDA_AT_EFFECT, 0, CALMUREDDA_AT_OPERANDS - CALMUREDDA_AT_EFFECT);
+    }
+    return __real_calmuredda_line(copy, sizeof copy, out, out_len, length);
+}
+
+uint8_t __wrap_calmuredda_line(const uint8_t *record, size_t record_len, uint8_t *out, size_t out_len, size_t *length)
+{
+    if (is(LINE_READS_AFTER_RECORD)) {
+        read_after(record, record_len);
+    }
+    *length = 0;
+    if (is(LINE_ROOM_FIRST) && out_len == 0 && record_len >= CALMUREDDA_RECORD_BYTES) {
+        return CALMUREDDA_NO_ROOM;
+    }
+    if ((is(LINE_SHORT_IS_9) && record_len < CALMUREDDA_RECORD_BYTES) || (is(LINE_LONGER_IS_9) && record_len > CALMUREDDA_RECORD_BYTES)) {
+        return CALMUREDDA_NO_WORD;
+    }
+    out_len -= is(LINE_LAST_BYTE_FREE) && out_len > 0;
+    uint8_t number = record_len < CALMUREDDA_RECORD_BYTES ? __real_calmuredda_line(record, record_len, out, out_len, length)
+                                                          : line_of_other(record, out, out_len, length);
+    if (is(LINE_ENDS_WITH_ZERO) && number == 0 && *length < out_len) {
+        out[*length] = 0;
+    }
+    *length += is(LINE_LENGTH_OF_REFUSAL) && number != 0;
+    return number;
+}
+
+/* ── section files ── */
+
+uint8_t __wrap_calmuredda_section_check(const uint8_t *file, size_t file_len)
+{
+    uint8_t number = __real_calmuredda_section_check(file, file_len);
+    return is(SECTION_CHECK_STOPS) && number == CALMUREDDA_BAD_HEADER ? CALMUREDDA_BAD_RECORD : number;
+}
+
+size_t __wrap_calmuredda_section_count(const uint8_t *file, size_t file_len)
+{
+    return is(SECTION_COUNT_OF_BAD_FILE) && file_len > 0 ? file[0] : __real_calmuredda_section_count(file, file_len);
+}
+
+uint8_t __wrap_calmuredda_section_flags(const uint8_t *file, size_t file_len)
+{
+    return is(SECTION_FLAGS_OF_BAD_FILE) && file_len > FLAGS_AT ? file[FLAGS_AT] : __real_calmuredda_section_flags(file, file_len);
+}
+
+uint64_t __wrap_calmuredda_section_address(const uint8_t *file, size_t file_len, size_t n)
+{
+    n = is(SECTION_NUMBER_WRAPS) ? wrapped(n, 4) : n;
+    uint64_t address = __real_calmuredda_section_address(file, file_len, n);
+    return is(SECTION_ADDRESS_OF_32_BITS) ? (uint32_t)address : address;
+}
+
+uint8_t __wrap_calmuredda_section_body(const uint8_t *file, size_t file_len, size_t n, size_t *offset, size_t *length)
+{
+    n = is(SECTION_NUMBER_WRAPS) ? wrapped(n, 4) : n;
+    uint8_t number = __real_calmuredda_section_body(file, file_len, n, offset, length);
+    if (number != 0 && is(SECTION_NUMBER_FIRST) && n > 0) {
+        number = CALMUREDDA_NO_SECTION;
+    }
+    *offset += is(SECTION_PART_OF_REFUSAL) && number != 0;
+    return number;
+}
