@@ -46,26 +46,31 @@ choose_counter() {
     esac
 }
 
-# total RUN NAME SWITCH: sets count, the instructions of a whole run; what it prints goes to $out/RUN.NAME.sumSWITCH. A run is named by its
-# program, or by the program and the word that it is given: boundary-decode is `boundary decode`.
-total() {
-    said=$out/$1.$2.said$3
-    sum=$out/$1.$2.sum$3
-    calls=$out/$1.$2.calls$3
-    program=${1%%-*}
-    input=$out/$2.in$3
-    case $1 in
-        *-*) set -- "$out/$program" "${1#*-}" ;;
-        *) set -- "$out/$program" ;;
-    esac
+# counted LABEL SWITCH WORD..: runs the words over standard input and sets count, the instructions of the whole run. What they print goes to
+# $out/LABEL.sumSWITCH.
+counted() {
+    sum=$out/$1.sum$2
+    said=$out/$1.said$2
+    calls=$out/$1.calls$2
+    shift 2
     if [ "$COUNTER" = valgrind ]; then
-        valgrind --tool=callgrind --callgrind-out-file="$calls" "$@" <"$input" >"$sum" 2>"$said" || failed "$* does not run; see $said"
+        valgrind --tool=callgrind --callgrind-out-file="$calls" "$@" >"$sum" 2>"$said" || failed "$* does not run; see $said"
         count=$(awk '/Collected/ {print $NF}' "$said")
     else
-        qemu-x86_64 -L "$libraries" -plugin "$out/plugin.so" "$@" <"$input" >"$sum" 2>"$said" || failed "$* does not run; see $said"
+        qemu-x86_64 -L "$libraries" -plugin "$out/plugin.so" "$@" >"$sum" 2>"$said" || failed "$* does not run; see $said"
         count=$(awk '/^instructions/ {print $2}' "$said")
     fi
     [ -n "$count" ] || failed "no count for $*; see $said"
+}
+
+# total RUN NAME SWITCH: sets count for a run over the input of that name and switch; what it prints goes to $out/RUN.NAME.sumSWITCH. A run is
+# named by its program, or by the program and the word that it is given: boundary-decode is `boundary decode`.
+total() {
+    input=$out/$2.in$3
+    case $1 in
+        *-*) counted "$1.$2" "$3" "$out/${1%%-*}" "${1#*-}" <"$input" ;;
+        *) counted "$1.$2" "$3" "$out/$1" <"$input" ;;
+    esac
 }
 
 # added RUN NAME: sets all_told, what the switch adds to a run.

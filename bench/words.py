@@ -1,4 +1,4 @@
-"""words.py FILE: the words of an ELF file's .text on standard output, little-endian, in the order of the file."""
+"""words.py FILE [big]: the words of an ELF file's .text on standard output, little-endian or big-endian, in the order of the file."""
 
 import struct
 import sys
@@ -43,7 +43,8 @@ class Elf:
 def main():
     with open(sys.argv[1], "rb") as file:
         words = Elf(file.read()).words()
-    sys.stdout.buffer.write(struct.pack(f"<{len(words)}I", *words))
+    order = ">" if sys.argv[2:] == ["big"] else "<"
+    sys.stdout.buffer.write(struct.pack(f"{order}{len(words)}I", *words))
 
 
 main()
