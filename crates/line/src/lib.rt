@@ -136,7 +136,7 @@ fn separator(k: usize, line: &mut [u8], at: usize) -> usize
 
 // ── the line ──
 
-fn fill(i: Insn, line: &mut [u8; 120]) -> usize
+fn fill(i: Insn, line: &mut [u8; LONGEST]) -> usize
     requires { ⌜ Line.printable i ≡ true ⌝ }
     ensures { λ x. ⌜ Wrote 0 120 (lineOf i) (now (line .entry)) (now (line .exit)) x ⌝ }
 {
@@ -167,7 +167,7 @@ pub fn print(i: Insn, out: &mut [u8]) -> Printed
             length: 0,
         };
     }
-    let mut line = [0u8; 120];
+    let mut line = [0u8; LONGEST];
     let n = fill(i, &mut line);
     if out.len() < n {
         return Printed {

@@ -9,6 +9,9 @@ const OUTPUT: i32 = 1;
 // A file that fills the buffer is too long.
 const FULL: usize = 65536;
 
+// The bytes of a page.
+const PAGE: usize = 4096;
+
 // The bytes of a word.
 const WORD: usize = 4;
 
@@ -35,7 +38,7 @@ fn say_total(words: usize, refused: usize) -> bool {
 // The lines of a body, page by page. Answers whether all were written.
 fn say_lines(body: &[u8], v: View) -> bool {
     let words = body.len() / WORD;
-    let mut page = [b' '; 4096];
+    let mut page = [b' '; PAGE];
     let mut n = 0;
     while n < words {
         let p = listing::page(body, v, n, &mut page, 0);

@@ -11,7 +11,9 @@ const DECIMAL: u64 = 10;
 
 const HEX: u64 = 16;
 
-// Room for the longest numeral, 2^64 - 1 in decimal, and for the two bytes that may stand before one.
+// The bytes that may stand before a numeral, and room for them and the longest one, 2^64 - 1 in decimal.
+const BEFORE: usize = 2;
+
 const ROOM: usize = 22;
 
 // ── numerals ──
@@ -29,7 +31,7 @@ fn glyph(d: u64) -> u8
 }
 
 // The numeral of n, at the end of b; answers where it starts.
-fn spell(n: u64, base: u64, b: &mut [u8; 22]) -> usize
+fn spell(n: u64, base: u64, b: &mut [u8; ROOM]) -> usize
     requires { ⌜ (1 < base) × (base ≤ 16) × (length (now b) ≡ 22) ⌝ }
     ensures { λ r. ⌜ (2 ≤ r) × (r ≤ 22) × (length (now (b .exit)) ≡ 22) × (drop r (now (b .exit)) ≡ numeralOf base n) ⌝ }
 {
@@ -37,7 +39,7 @@ fn spell(n: u64, base: u64, b: &mut [u8; 22]) -> usize
     let mut rest = n / base;
     b[i] = glyph(n % base);
     while 0 < rest {
-        if i == 2 {
+        if i == BEFORE {
             break;
         }
         i -= 1;
@@ -52,7 +54,7 @@ pub fn count(n: u64, out: &mut [u8], at: usize) -> usize
     ensures { λ r. ⌜ r ≡ length (numeralOf 10 n) ⌝ }
     ensures { λ _. ⌜ now (out .exit) ≡ placed at (numeralOf 10 n) (now (out .entry)) ⌝ }
 {
-    let mut b = [0u8; 22];
+    let mut b = [0u8; ROOM];
     let start = spell(n, DECIMAL, &mut b);
     buffers::put(&b[start..], out, at);
     ROOM - start
@@ -75,7 +77,7 @@ pub fn decimal(x: i64, out: &mut [u8], at: usize) -> usize
     ensures { λ r. ⌜ r ≡ length (decimalOf x) ⌝ }
     ensures { λ _. ⌜ now (out .exit) ≡ placed at (decimalOf x) (now (out .entry)) ⌝ }
 {
-    let mut b = [0u8; 22];
+    let mut b = [0u8; ROOM];
     let mut start = spell(magnitude(x), DECIMAL, &mut b);
     if x < 0 {
         start -= 1;
@@ -90,8 +92,8 @@ pub fn address(a: u64, out: &mut [u8], at: usize) -> usize
     ensures { λ r. ⌜ r ≡ length (addressOf a) ⌝ }
     ensures { λ _. ⌜ now (out .exit) ≡ placed at (addressOf a) (now (out .entry)) ⌝ }
 {
-    let mut b = [0u8; 22];
-    let start = spell(a, HEX, &mut b) - 2;
+    let mut b = [0u8; ROOM];
+    let start = spell(a, HEX, &mut b) - BEFORE;
     b[start] = b'0';
     b[start + 1] = b'x';
     buffers::put(&b[start..], out, at);
@@ -100,13 +102,18 @@ pub fn address(a: u64, out: &mut [u8], at: usize) -> usize
 
 // ── digits in columns ──
 
+// The digits of 64 bits, and the column of the first one of 32 bits.
+const COLUMNS: usize = 16;
+
+const HALF: usize = 8;
+
 // The hex digits of n from column `from` of sixteen on.
-fn columns(n: u64, from: usize) -> [u8; 16]
+fn columns(n: u64, from: usize) -> [u8; COLUMNS]
     requires { ⌜ from ≤ 16 ⌝ }
     ensures { λ r. ⌜ drop from r ≡ hexOf (16 - from) n ⌝ }
 {
-    let mut b = [0u8; 16];
-    let mut i = 16;
+    let mut b = [0u8; COLUMNS];
+    let mut i = COLUMNS;
     let mut rest = n;
     while from < i {
         i -= 1;
@@ -128,8 +135,8 @@ pub fn hex16(n: u64, out: &mut [u8], at: usize)
 pub fn hex8(n: u32, out: &mut [u8], at: usize)
     ensures { λ _. ⌜ now (out .exit) ≡ placed at (hexOf 8 n) (now (out .entry)) ⌝ }
 {
-    let b = columns(n as u64, 8);
-    buffers::put(&b[8..], out, at);
+    let b = columns(n as u64, HALF);
+    buffers::put(&b[HALF..], out, at);
 }
 
 // ── names ──
