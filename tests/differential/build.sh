@@ -34,15 +34,17 @@ need_x86_rust() {
     if [ "$(uname -m)" != x86_64 ]; then
         # Another rustc may stand first on the PATH; the library that is installed is for Debian's.
         x86_rustc=/usr/bin/rustc
-        install_debian_rust && builds_x86 "$1" && return 0
+        lock "$PACKAGES"
+        install_debian_rust || true
+        unlock
+        builds_x86 "$1" && return 0
     fi
     missing "no rustc that builds for x86-64 can be had (on other machines Debian's does, with libstd-rust-dev:amd64); see $1/empty.txt"
 }
 
 # build_linked SOURCE PROGRAM: builds the program around the unchanged Rust and links it with $archive.
 build_linked() {
-    digest=$(sha256sum "$tests/oracle/mips.rs" | cut -d ' ' -f 1)
-    [ "$digest" = "$MIPS_RS_DIGEST" ] || failed "mips.rs is not the published file"
+    check_published "$tests/oracle"
     [ -s "$archive" ] || failed "the library is missing: $archive"
     x86_rust -C link-arg="$archive" -o "$2" "$1" || failed "${2##*/} does not build"
 }
