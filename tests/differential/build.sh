@@ -6,7 +6,8 @@ X86_TARGET=x86_64-unknown-linux-gnu
 
 # x86_rust WORD..: $x86_rustc, always for x86-64, so that the library is never linked into a program for another machine.
 x86_rust() {
-    "$x86_rustc" -O --edition 2021 --target "$X86_TARGET" -C linker="$x86_cc" "$@"
+    # shellcheck disable=SC2086
+    "$x86_rustc" $RUST_FLAGS --target "$X86_TARGET" -C linker="$x86_cc" "$@"
 }
 
 # builds_x86 FOLDER: does $x86_rustc build programs for x86-64 that can be run?

@@ -5,32 +5,13 @@
 //! of `compare.rs`, and SEARCHED words with the smallest word that is found by
 //! trying. It prints what it compared, or names what differs and ends with status 1.
 
-#[allow(dead_code)]
-#[path = "../oracle/answer.rs"]
-mod answer;
 mod boundary;
 mod compare;
 mod expected;
-#[path = "../oracle/many.rs"]
-mod many;
-// The file is kept as published: not all of it is called, and formatting must not
-// touch it.
-#[allow(dead_code)]
-#[rustfmt::skip]
-#[path = "../oracle/mips.rs"]
-mod mips;
 mod mistakes;
-#[path = "../oracle/model.rs"]
-mod model;
 #[allow(dead_code)]
-#[path = "../oracle/record.rs"]
-mod record;
-#[allow(dead_code)]
-#[path = "../oracle/smallest.rs"]
-mod smallest;
-#[allow(dead_code)]
-#[path = "../oracle/vectors.rs"]
-mod vectors;
+#[path = "../oracle/shared.rs"]
+mod shared;
 
 use std::env;
 use std::process::exit;
@@ -38,6 +19,7 @@ use std::process::exit;
 use answer::Ask;
 use compare::{Comparison, Counts, Library, Linked};
 use mistakes::{Mistake, Mistaken};
+use shared::{answer, many, mips, model, record, smallest, vectors};
 
 const USAGE: &str = "usage: differential COUNT SEARCHED SEED";
 const STATUS_FAILED: i32 = 1;

@@ -6,31 +6,17 @@
 //! the accepted records are encoded as well; with 0 none are. `summary RESULTS` prints
 //! what all chunks in the file come to.
 
-#[allow(dead_code)]
-#[path = "../oracle/answer.rs"]
-mod answer;
 mod batch;
 #[path = "../differential/boundary.rs"]
 mod boundary;
 mod chunk;
 #[path = "../differential/expected.rs"]
 mod expected;
-// The file is kept as published: not all of it is called, and formatting must not
-// touch it.
-#[allow(dead_code)]
-#[rustfmt::skip]
-#[path = "../oracle/mips.rs"]
-mod mips;
-#[path = "../oracle/model.rs"]
-mod model;
-#[allow(dead_code)]
-#[path = "../oracle/record.rs"]
-mod record;
 mod results;
-mod summary;
 #[allow(dead_code)]
-#[path = "../oracle/vectors.rs"]
-mod vectors;
+#[path = "../oracle/shared.rs"]
+mod shared;
+mod summary;
 mod work;
 
 use std::env;
@@ -38,6 +24,7 @@ use std::io;
 use std::path::Path;
 use std::process::exit;
 
+use shared::{answer, mips, model, record, vectors};
 use work::Plan;
 
 const USAGE: &str = "usage: exhaustive (compare RESULTS THREADS EVERY MOST | summary RESULTS)";

@@ -15,6 +15,11 @@ pub const OPERAND_SLOTS: usize = 4;
 /// refused line has as many columns as an accepted one.
 const NO_MNEMONIC: &str = "-";
 
+const HEX: &[u8; 16] = b"0123456789abcdef";
+
+/// How many digits the widest column has.
+const MOST_DIGITS: usize = 16;
+
 /// What the decoder is asked: a word at an address, with the width flag.
 ///
 /// The order of the members is the order in which lists are sorted: by word
@@ -160,34 +165,43 @@ impl<'a> Columns<'a> {
     }
 
     fn write(&self, out: &mut impl Write) -> io::Result<()> {
-        let present = self.target.is_some() as u8;
-        let target = self.target.unwrap_or(0);
-        write!(
-            out,
-            "{} {} {} {present} {target:016x}",
-            self.number, self.flow, self.mark as u8
-        )?;
-        let e = &self.effect;
-        write!(
-            out,
-            " {} {:02x} {:02x} {} {:016x}",
-            e.kind, e.first, e.second, e.size, e.value
-        )?;
-        write!(out, " {}", self.count)?;
+        write_hex(out, 1, self.number.into())?;
+        write_hex(out, 1, self.flow.into())?;
+        write_hex(out, 1, self.mark.into())?;
+        write_hex(out, 1, self.target.is_some().into())?;
+        write_hex(out, 16, self.target.unwrap_or(0))?;
+        write_hex(out, 1, self.effect.kind.into())?;
+        write_hex(out, 2, self.effect.first.into())?;
+        write_hex(out, 2, self.effect.second.into())?;
+        write_hex(out, 1, self.effect.size.into())?;
+        write_hex(out, 16, self.effect.value)?;
+        write_hex(out, 1, self.count as u64)?;
         for slot in &self.slots {
-            write!(
-                out,
-                " {} {:02x} {:016x}",
-                slot.kind, slot.register, slot.value
-            )?;
+            write_hex(out, 1, slot.kind.into())?;
+            write_hex(out, 2, slot.register.into())?;
+            write_hex(out, 16, slot.value)?;
         }
-        writeln!(out, " {}", self.mnemonic)
+        writeln!(out, "{}", self.mnemonic)
     }
+}
+
+/// Writes a column of so many digits, and the space after it. `write!` does the same, but
+/// puts leading zeros one by one, and a run writes hundreds of millions of them.
+fn write_hex(out: &mut impl Write, digits: usize, number: u64) -> io::Result<()> {
+    let mut column = [b' '; MOST_DIGITS + 1];
+    let mut rest = number;
+    for digit in column[..digits].iter_mut().rev() {
+        *digit = HEX[(rest % 16) as usize];
+        rest /= 16;
+    }
+    out.write_all(&column[..=digits])
 }
 
 /// Asks the decoder and writes the answer as one line.
 pub fn write_answer(out: &mut impl Write, ask: &Ask) -> io::Result<()> {
-    write!(out, "{} {:016x} {:08x} ", ask.wide as u8, ask.va, ask.word)?;
+    write_hex(out, 1, ask.wide.into())?;
+    write_hex(out, 16, ask.va)?;
+    write_hex(out, 8, ask.word.into())?;
     match ask.decode() {
         Some(insn) => Columns::accepted(&insn).write(out),
         None => Columns::refused(refusal_number(ask.word)).write(out),

@@ -6,26 +6,19 @@
 //! the same with the smallest word of the same reading for an answer. `records` writes
 //! questions to the library for C in binary frames, with the answers to them.
 
-mod answer;
 mod damage;
 mod find;
 mod input;
-mod many;
-// The file is kept as published: the driver does not call all of it, and
-// formatting must not touch it.
-#[allow(dead_code)]
-#[rustfmt::skip]
-mod mips;
-mod model;
-mod record;
 mod records;
-mod smallest;
+#[path = "shared.rs"]
+mod shared;
 mod text;
-mod vectors;
 
 use std::env;
 use std::io::{self, BufWriter, Write};
 use std::process::exit;
+
+use shared::{answer, many, mips, model, record, smallest, vectors};
 
 const USAGE: &str =
     "usage: oracle [text | vectors | smallest-vectors | (many | smallest | records) COUNT SEED]";
