@@ -4,15 +4,18 @@ crates/classes/specs, read words by them, and compare every part of every readin
 
     check.py REPOSITORY < ANSWERS
 
-ANSWERS are lines of tests/vectors/README.md's format. What the tables' words mean (`Meaning.antt`, `Numbers.antt`) is written
-here a second time, from document 01. The mnemonic kinds of the code are held against those of the specs too.
+ANSWERS are lines of tests/vectors/README.md's format. antt.py reads the tables; what their words mean (`Meaning.antt`,
+`Numbers.antt`) is written here a second time, from document 01. The mnemonic kinds of the code are held against those of the specs too.
 """
 import re
 import sys
+from pathlib import Path
 
-FIELDS = ("op", "rs", "rt", "rd", "sa", "fn")
-SHIFTS = {"op": 26, "rs": 21, "rt": 16, "rd": 11, "sa": 6, "fn": 0}
-WIDTHS = {"op": 6, "rs": 5, "rt": 5, "rd": 5, "sa": 5, "fn": 6}
+sys.path.append(str(Path(__file__).resolve().parents[1]))
+
+from antt import FIELDS, demand, fields_of, kinds_of, mnemonic, parts, rows_of, text_of, value_of  # noqa: E402
+
+OPS = 64
 MASK64 = 2**64 - 1
 KINDS = {"Reg": 1, "FReg": 2, "Imm": 3, "Mem": 4, "Addr": 5, "Cop0": 6}
 FLOWS = {"plain": 0, "call": 1, "jump": 2, "branch": 3, "return": 4, "interrupt": 5}
@@ -20,110 +23,47 @@ MARKED = ("call", "jump", "branch", "byRegister")
 RET, JUMP, RA = 4, 2, 31
 
 
-def text_of(repository, path):
-    with open(f"{repository}/crates/{path}", encoding="utf-8") as file:
-        return file.read()
+def count_kinds(repository):
+    """How many mnemonic kinds there are, if the constants of the code have the numbers of the specs."""
+    code = re.findall(r"^pub const (\w+): u8 = (\d+);$", text_of(repository, "crates/reading/src/kind.rt"), re.M)
+    specs = [(name.replace("-", "_").upper(), number) for name, number in kinds_of(repository)]
+    demand(code == specs, "kinds", "one has one number in reading/src/kind.rt and another in reading/specs/Kind.antt")
+    return len(code)
 
 
-# ── the mnemonic kinds ──
+# ── the two tables ──
 
 
-def kinds_agree(repository):
-    """How many kinds there are, if the constants of the code have the numbers of the specs; else nothing."""
-    code = re.findall(r"^pub const (\w+): u8 = (\d+);$", text_of(repository, "reading/src/kind.rt"), re.M)
-    specs = re.findall(r"^abbrev pub (\S+) : ℕ\n\S+ = (\d+)$", text_of(repository, "reading/specs/Kind.antt"), re.M)
-    named = [(name.replace("-", "_").upper(), number) for name, number in specs if name != "many"]
-    return len(code) if code == named else None
+def rows_by_op(rows):
+    """For each op the rows that words with it may have."""
+    return [[row for row in rows if matches(row["pop"], op)] for op in range(OPS)]
 
 
-# ── the table of classes, as text ──
-
-TOKEN = r"\([^()]*\)|\S+"
-
-
-def forms_of(text):
-    """Each named form as its list of codes; the last is `end`, `posSize` or `link`."""
-    found = {"link": [["link"]]}
-    for name, body in re.findall(r"^abbrev pub \S+ : Form\n(\S+) = (.*)$", text, re.M):
-        found[name] = [code.split() for code in body.split(" ▸ ")]
-    return found
-
-
-def row_of(line, forms):
-    head, *columns = re.findall(TOKEN, line.removesuffix(" ∷"))
-    kind, *rest = columns
-    patterns = [p.strip("()").split() for p in rest[:6]]
-    form, control, change = rest[6:9]
-    return {
-        "mnemonic": kind.removeprefix("kind."),
-        "patterns": dict(zip(FIELDS, patterns)),
-        "nops": head == "rowButNops",
-        "form": forms[form],
-        "control": control,
-        "change": change.strip("()").split(),
-    }
-
-
-def rows_between(text, start, end, forms):
-    part = text[text.index(start) : text.index(end)]
-    lines = (line.strip() for line in part.splitlines())
-    return [row_of(line, forms) for line in lines if line.startswith("row")]
-
-
-def tables_of(text):
-    forms = forms_of(text)
-    common = rows_between(text, "\ncommon =", "unfoldable pub byWidth", forms)
-    wide = rows_between(text, "\nbyWidth true =", "\nbyWidth false =", forms)
-    narrow = rows_between(text, "\nbyWidth false =", "unfoldable pub table", forms)
-    return {False: common + narrow, True: common + wide}
-
-
-# ── the acceptance table, as text ──
-
-
-def numbers_of(text):
-    """A list such as `0 to 3 ++ 16 ∷ 17 ∷ []` or `only 16`."""
-    found = set()
-    for item in re.split(r" ∷ | \+\+ ", text.strip("() ")):
-        span = re.fullmatch(r"(\d+) to (\d+)", item)
-        if span:
-            found |= set(range(int(span[1]), int(span[2]) + 1))
-        elif item != "[]":
-            found.add(int(item.removeprefix("only ")))
-    return found
-
-
-def refusals_of(text):
-    arithmetic = re.search(r"^arithmetic = (.*)$", text, re.M)[1]
-    entries = []
-    for line in re.findall(r"^    refuse (.*) ∷$", text, re.M):
-        number, tests = line.replace("arithmetic", f"({arithmetic})").split(" ", 1)
-        found = re.findall(r"(op|rs|rt|rd|sa|fn) (∈|∉) (only \d+|\([^()]*\))", tests)
-        entries.append((int(number), [(x, sign == "∈", numbers_of(v)) for x, sign, v in found]))
-    return entries
+def refusal(refusals, f):
+    """The number of the first entry that refuses the word; 0 if none does."""
+    for entry in refusals:
+        if all((f[x] in values) == (sign == "∈") for sign, x, values in entry["tests"]):
+            return entry["number"]
+    return 0
 
 
 # ── what they mean ──
 
 
-def fields_of(word):
-    return {x: word >> SHIFTS[x] & 2 ** WIDTHS[x] - 1 for x in FIELDS}
-
-
 def matches(pattern, value):
-    name, *argument = pattern
-    if name in ("read", "zeros", "extra"):
+    name, *argument = parts(pattern)
+    if name in ("read", "skip"):
         return True
-    wanted = int(argument[0])
+    wanted = argument[0]
     if name == "low":
         return value % 4 == wanted
     return (value == wanted) == (name == "is")
 
 
 def takes(row, word, f):
-    if row["nops"] and word in (0, 0x40):
+    if row["nops"] == "true" and word in (0, 0x40):
         return False
-    return all(matches(row["patterns"][x], f[x]) for x in FIELDS)
+    return all(matches(row["p" + x], f[x]) for x in FIELDS)
 
 
 def signed(value):
@@ -133,7 +73,7 @@ def signed(value):
 def operand(code, va, word, f):
     imm = word & 0xFFFF
     after = va + 4 & MASK64
-    name, field = code[0], code[-1]
+    name, field = parts(code)[0], parts(code)[-1]
     simple = {"reg": "Reg", "freg": "FReg", "cop0": "Cop0"}
     if name in simple:
         return simple[name], f[field], 0
@@ -150,8 +90,8 @@ def operand(code, va, word, f):
 
 
 def operands(form, va, word, f):
-    found = [operand(code, va, word, f) for code in form[:-1]]
-    last = form[-1][0]
+    *codes, last = form if isinstance(form, list) else [form]
+    found = [operand(code, va, word, f) for code in codes]
     if last == "posSize":
         found += [("Imm", 0, f["sa"]), ("Imm", 0, f["rd"] - f["sa"] + 1)]
     if last == "link":
@@ -163,7 +103,7 @@ def effect(change, os):
     """Number, first register, second, size, value."""
     registers = [o[1] for o in os] + [0] * 4
     values = [o[2] for o in os] + [0] * 4
-    name = change[0]
+    name, *size = parts(change)
     if name == "nothing":
         return 0, 0, 0, 0, 0
     if name == "writes":
@@ -175,15 +115,14 @@ def effect(change, os):
     if name == "setsUpper":
         return 1, registers[0], 0, 0, signed(values[1]) << 16
     first = registers[0] if name == "loads" else 0
-    return 3, first, registers[1], int(change[1]), values[1]
+    return 3, first, registers[1], size[0], values[1]
 
 
 def answer(tables, refusals, wide, va, word):
     """The line that the Rust should give, and how many rows take the word."""
     f = fields_of(word)
-    number = next((n for n, ts in refusals if all((f[x] in vs) == inside for x, inside, vs in ts)), 0)
-    rows = [row for row in tables[wide] if takes(row, word, f)]
-    question = f"{wide:d} {va:016x} {word:08x} {number}"
+    rows = [row for row in tables[wide][f["op"]] if takes(row, word, f)]
+    question = f"{wide:d} {va:016x} {word:08x} {refusal(refusals, f)}"
     if not rows:
         return f"{question} 0 0 0 {0:016x} 0 00 00 0 {0:016x} 0" + f" 0 00 {0:016x}" * 4 + " -", 0
     row = rows[0]
@@ -197,16 +136,15 @@ def answer(tables, refusals, wide, va, word):
     for kind, register, value in os:
         line += f" {KINDS[kind]} {register:02x} {value & MASK64:016x}"
     line += f" 0 00 {0:016x}" * (4 - len(os))
-    return f"{line} {row['mnemonic'].replace('-', '.')}", len(rows)
+    return f"{line} {mnemonic(row['kind'])}", len(rows)
 
 
 def main():
     repository = sys.argv[1]
-    tables = tables_of(text_of(repository, "classes/specs/Table.antt"))
-    refusals = refusals_of(text_of(repository, "classes/specs/Refusals.antt"))
-    kinds = kinds_agree(repository)
-    if kinds is None:
-        sys.exit("a mnemonic kind has one number in reading/src/kind.rt and another in reading/specs/Kind.antt")
+    classes = [rows_of(repository, wide) for wide in (False, True)]
+    tables = [rows_by_op(rows) for rows in classes]
+    refusals = value_of(repository, "classes/specs/Refusals.antt", "refusals")
+    kinds = count_kinds(repository)
     compared = 0
     for line in sys.stdin:
         line = line.rstrip("\n")
@@ -215,8 +153,8 @@ def main():
         if ours != line or rows > 1:
             sys.exit(f"the Rust:       {line}\nthe definition: {ours} ({rows} rows)")
         compared += 1
-    classes = [len(tables[wide]) for wide in (False, True)]
-    print(f"{compared} answers, {classes[0]} classes without the flag, {classes[1]} with it, {len(refusals)} entries of refusals, {kinds} kinds")
+    without, having = map(len, classes)
+    print(f"{compared} answers, {without} classes without the flag, {having} with it, {len(refusals)} entries of refusals, {kinds} kinds")
 
 
 main()

@@ -4,21 +4,24 @@ and against the Rust: the example of each, and words drawn at random from those 
 
     check.py REPOSITORY ORACLE
 
-ORACLE is the driver of tests/oracle. The specs are read with their own abbreviations and relations; what a list, a test, a claim
-and a page's drawing mean is written here a second time.
+ORACLE is the driver of tests/oracle. antt.py reads the specs, with their own abbreviations and relations; what a test, a claim and
+a page's drawing mean is written here a second time.
 """
 import collections
-import functools
 import itertools
 import operator
 import random
 import re
 import subprocess
 import sys
+from pathlib import Path
 
-FIELDS = ("op", "rs", "rt", "rd", "sa", "fn")
-SHIFTS = {"op": 26, "rs": 21, "rt": 16, "rd": 11, "sa": 6, "fn": 0}
-ROOM = {"op": 64, "rs": 32, "rt": 32, "rd": 32, "sa": 32, "fn": 64}
+sys.path.append(str(Path(__file__).resolve().parents[1]))
+
+from antt import FIELDS, constructors_of, demand, evaluate, fields_of, kinds_of, mnemonic, parsed, rows_of, text_of, value_of  # noqa: E402
+
+# How many values each field can have.
+ROOM = {x: 2**width for x, (_, width) in FIELDS.items()}
 
 # The width flags under which words count, and pages.
 FLAGS = {"either": (False, True), "on": (True,), "off": (False,)}
@@ -39,169 +42,15 @@ SEED = 75
 FEW = 16
 
 
-def text_of(repository, path):
-    with open(f"{repository}/{path}", encoding="utf-8") as file:
-        return file.read()
-
-
-def demand(holds, name, message):
-    if not holds:
-        sys.exit(f"{name}: {message}")
-
-
 def shown(word, wide):
     return f"word 0x{word:08x}, flag {'on' if wide else 'off'}"
-
-
-# ── expressions of the specs, as trees ──
-
-TOKEN = re.compile(r'"[^"]*"|[(){};]|[^\s(){};"]+')
-LIST_SIGNS = ("∷", "++")
-INFIX = {
-    "∈": lambda field, values: ("∈", field, values),
-    "∉": lambda field, values: ("∉", field, values),
-    "to": lambda first, last: list(range(first, last + 1)),
-    "+": operator.add,
-}
-END = ""
-STOPS = {")", "}", ";", END, *LIST_SIGNS, *INFIX}
-
-
-class Parser:
-    """Takes an expression apart, from the signs that bind least, those of lists, down to names and numbers."""
-
-    def __init__(self, text):
-        self.tokens = TOKEN.findall(text)[::-1]
-
-    def next(self):
-        return self.tokens[-1] if self.tokens else END
-
-    def take(self, wanted=None):
-        token = self.tokens.pop() if self.tokens else END
-        demand(wanted in (None, token), "specs", f"`{token}` stands where `{wanted}` should")
-        return token
-
-    def expression(self):
-        items, signs = [self.infix()], []
-        while self.next() in LIST_SIGNS:
-            signs.append(self.take())
-            items.append(self.infix())
-        return ("list", items, signs) if signs else items[0]
-
-    def infix(self):
-        left = self.application()
-        return (self.take(), left, self.application()) if self.next() in INFIX else left
-
-    def application(self):
-        head, arguments = self.atom(), []
-        while self.next() not in STOPS:
-            arguments.append(self.atom())
-        return ("apply", head, arguments) if arguments else head
-
-    def atom(self):
-        token = self.take()
-        if token == "(":
-            inner = self.expression()
-            self.take(")")
-            return inner
-        if token == "record":
-            return ("record", self.members())
-        if token == "[]":
-            return ("value", [])
-        if token.startswith('"'):
-            return ("value", token.strip('"'))
-        return ("value", int(token, 0)) if token[:1].isdigit() else ("name", token)
-
-    def members(self):
-        """What stands in a record: `{ name = expression; ... }`."""
-        found, before = {}, "{"
-        while self.next() == before:
-            self.take()
-            name = self.take()
-            self.take("=")
-            found[name] = self.expression()
-            before = ";"
-        self.take("}")
-        return found
-
-
-@functools.lru_cache(maxsize=None)
-def parsed(text):
-    parser = Parser(text)
-    tree = parser.expression()
-    parser.take(END)
-    return tree
-
-
-# ── their values ──
-
-# A body is kept as text: most definitions are never asked for, and not all of them are expressions of this kind.
-Definition = collections.namedtuple("Definition", "parameters body scope")
-DEFINITION = re.compile(r"^(abbrev|unfoldable)(?: pub)? (\S+) : (.*)\n\2((?: \S+)*?) =\s+(.*(?:\n(?:[ \t].*)?)*)", re.M)
-USE = re.compile(r"^use Rattle·(\w+)(?:·specs)?\.specs\.(\w+)\.\{(.*)\}$", re.M)
-
-
-@functools.lru_cache(maxsize=None)
-def scope_of(repository, path):
-    """The definitions that the expressions of a file can name: its own, and those that its `use` lines ask for."""
-    text = re.sub(r"(^|[ \t])--.*$", "", text_of(repository, f"crates/{path}"), flags=re.M)
-    scope = {}
-    for crate, file, names in USE.findall(text):
-        other = scope_of(repository, f"{crate}/specs/{file}.antt")
-        scope.update((name, other[name]) for name in names.split(", ") if name in other)
-    for head, name, kind, parameters, body in DEFINITION.findall(text):
-        by_clauses = head == "unfoldable" and "→" in kind
-        # Forms are left as names: operands are not compared here.
-        if not by_clauses and kind != "Form":
-            scope[name] = Definition(parameters.split(), body, scope)
-    return scope
-
-
-def evaluate(tree, scope, local):
-    """The value of a tree: numbers, texts, lists, records as dictionaries, and constructors."""
-    sign, *parts = tree
-    if sign == "value":
-        return parts[0]
-    if sign == "name":
-        return named(parts[0], [], scope, local)
-    if sign == "apply":
-        return named(parts[0][1], [evaluate(part, scope, local) for part in parts[1]], scope, local)
-    if sign == "record":
-        return {name: evaluate(part, scope, local) for name, part in parts[0].items()}
-    if sign == "list":
-        values = [evaluate(part, scope, local) for part in parts[0]]
-        # The last part is a list itself, as if `++` came after it.
-        joined = zip(values, parts[1] + ["++"])
-        return list(itertools.chain.from_iterable([value] if after == "∷" else value for value, after in joined))
-    return INFIX[sign](*(evaluate(part, scope, local) for part in parts))
-
-
-def named(name, arguments, scope, local):
-    """A name that has no definition is a constructor: it stands for itself, in front of its arguments."""
-    if name in local:
-        return local[name](*arguments) if arguments else local[name]
-    if name not in scope:
-        return (name, *arguments) if arguments else name
-    found = scope[name]
-    demand(len(found.parameters) == len(arguments), "specs", f"`{name}` has {len(arguments)} arguments")
-    return evaluate(parsed(found.body), found.scope, dict(zip(found.parameters, arguments)))
-
-
-def value_of(repository, path, name):
-    scope = scope_of(repository, path)
-    demand(name in scope, path, f"`{name}` is not defined")
-    return named(name, [], scope, {})
 
 
 # ── sets of words ──
 
 
-def fields_of(word):
-    return {x: word >> SHIFTS[x] & ROOM[x] - 1 for x in FIELDS}
-
-
 def word_of(fields):
-    return sum(fields[x] << SHIFTS[x] for x in FIELDS)
+    return sum(fields[x] << low for x, (low, _) in FIELDS.items())
 
 
 class Relations:
@@ -278,10 +127,6 @@ class Places:
 # ── the entries ──
 
 
-def mnemonic(kind):
-    return kind.removeprefix("kind.").replace("-", ".")
-
-
 class Entry:
     def __init__(self, title, difference, relations):
         self.list = title
@@ -321,9 +166,7 @@ def entries_of(repository):
 
 def check_constructors(repository, entries):
     """Each constructor of `Exception` has one entry."""
-    text = text_of(repository, "crates/manual/specs/Exceptions.antt")
-    declared = re.search(r"^pub data Exception .*\n((?:[ \t]+.*\n)+)", text, re.M)[1]
-    constructors = collections.Counter(" ".join(re.findall(r"^[ \t]+([^-\s].*) : Exception$", declared, re.M)).split())
+    constructors = collections.Counter(constructors_of(repository, "manual/specs/Exceptions.antt", "Exception"))
     named_by = collections.Counter(entry.name for entry in entries)
     for name in {**constructors, **named_by}:
         demand(constructors[name] == 1, name, f"{constructors[name]} constructors of Exception")
@@ -454,12 +297,6 @@ def pages_of(repository):
     return found
 
 
-def rows_of(repository):
-    """The mnemonics that have a row in the table of classes."""
-    text = text_of(repository, "crates/classes/specs/Table.antt")
-    return {mnemonic(kind) for kind in re.findall(r"^ +row\w* (kind\.\S+) ", text, re.M)}
-
-
 def tells(row, page):
     """Whether every part of the page's name is in the row; its `compares` stand for the names that begin with `c.`."""
     words = set(re.findall(r"\w+", f"{row.manual} {row.words}"))
@@ -491,9 +328,9 @@ def check_rows(repository, pages, rows, entries):
 
 def check_names(repository, entries):
     """How many mnemonics there are, if the names stand in the order of the kinds."""
-    kinds = re.findall(r"^abbrev pub (\S+) : ℕ\n\1 = (\d+)$", text_of(repository, "crates/reading/specs/Kind.antt"), re.M)
-    expected = [mnemonic(name) for name, _ in kinds if name != "many"]
-    for place, (name, number) in enumerate(pair for pair in kinds if pair[0] != "many"):
+    kinds = kinds_of(repository)
+    expected = [mnemonic(name) for name, _ in kinds]
+    for place, (name, number) in enumerate(kinds):
         demand(int(number) == place, name, f"kind {number}, not {place}")
     names = value_of(repository, "reading/specs/Names.antt", "mnemonics")
     for place, (ours, theirs) in enumerate(itertools.zip_longest(names, expected)):
@@ -515,7 +352,8 @@ def main():
     for number, (entry, row) in enumerate(zip(entries, documented), 1):
         check_smallest(entry)
         check_row(number, entry, row, drawings)
-    rows = rows_of(repository)
+    # The mnemonics that have a row in the table of classes.
+    rows = {mnemonic(row["kind"]) for wide in (False, True) for row in rows_of(repository, wide)}
     check_pages(pages, rows, {row.name: row for row in itertools.chain(*tables[:-1])}, covering)
     check_rows(repository, pages, rows, entries)
     names = check_names(repository, entries)

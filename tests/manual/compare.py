@@ -51,7 +51,7 @@ def marked(mark):
     """cc as a register, wherever it is printed."""
 
     def rewrite(page, word, at, told):
-        place = place_of(page, word, ("unsigned", ("Cc",)))
+        place = place_of(page, word, ("unsigned", "Cc"))
         if place is None:
             return told
         operands = list(told.operands)
@@ -89,7 +89,7 @@ def short_if_zero(field, names):
     """Under another name and without the register, if the register is number 0."""
 
     def rewrite(page, word, at, told):
-        place = place_of(page, word, ("gpr", (field,)))
+        place = place_of(page, word, ("gpr", field))
         if place is None or told.operands[place][1]:
             return told
         return Reading(names[told.name], told.operands[:place] + told.operands[place + 1 :])
@@ -156,7 +156,7 @@ def impl_parts(impl):
 
 def as_register_and_sel(zero_printed):
     def rewrite(page, word, at, told):
-        place = place_of(page, word, ("unsigned", ("Impl",)))
+        place = place_of(page, word, ("unsigned", "Impl"))
         if place is None:
             return told
         register, between, sel = impl_parts(told.operands[place][1])

@@ -9,8 +9,12 @@ address of the first word, in hex).
 import itertools
 import struct
 import sys
+from pathlib import Path
 
-from pages import COLUMNS, WORD_BITS, WORD_BYTES, pages_of
+sys.path.append(str(Path(__file__).resolve().parents[1] / "model"))
+
+from pages import COLUMNS, WORD_BITS, WORD_BYTES, pages_of  # noqa: E402
+from splitmix import Splitmix  # noqa: E402
 
 SEED = 20261115
 PER_PAGE = 700  # words of each page with its fields at random
@@ -22,30 +26,14 @@ PER_CELL = 5  # words for every op and every number in one more column
 ANY_WORDS = 60000  # words of no page in particular
 REGISTERS = 32  # so many numbers a column of five bits has
 EVERY_BIT = 2**WORD_BITS - 1
-MASK64 = 2**64 - 1
 # A jump stands in the last word below this address, so that it goes to the region above; others stand on either side of it.
 REGION_START = 0x50000000
 JUMP = "j"
 
 
-class Splitmix:
-    """The generator splitmix64: nothing outside this file has a say in the words."""
-
-    def __init__(self, seed):
-        self.state = seed
-
-    def next(self):
-        self.state = self.state + 0x9E3779B97F4A7C15 & MASK64
-        z = self.state
-        z = (z ^ z >> 30) * 0xBF58476D1CE4E5B9 & MASK64
-        z = (z ^ z >> 27) * 0x94D049BB133111EB & MASK64
-        return z ^ z >> 31
-
+class Random(Splitmix):
     def word(self):
         return self.next() & EVERY_BIT
-
-    def choice(self, items):
-        return items[self.next() % len(items)]
 
 
 def bits_of(mask):
@@ -101,19 +89,19 @@ def equal_columns(page, random):
     for one, other in itertools.combinations(("rs", "rt", "rd", "sa"), 2):
         both = every_bit_of(one) | every_bit_of(other)
         for _ in range(PER_PAIR):
-            number = random.next() % REGISTERS
+            number = random.below(REGISTERS)
             word = random.word() & ~both | within(one, number) | within(other, number)
             yield page.value | word & ~page.mask
 
 
 def words_of(page):
-    random = Splitmix(SEED ^ page.mask << WORD_BITS ^ page.value)  # its own, so that a page's words do not hang on other pages
+    random = Random(SEED ^ page.mask << WORD_BITS ^ page.value)  # its own, so that a page's words do not hang on other pages
     yield from at_limits(page, random)
     yield from wrong_by_one_bit(page, random)
     yield from equal_columns(page, random)
     for index in range(PER_PAGE):
         word = allowed_word(page, random) if index % 2 else page.value | random.word() & ~page.mask
-        yield word if random.next() % FLIP_ONE_IN else word ^ random.choice(bits_of(page.mask))
+        yield word if random.below(FLIP_ONE_IN) else word ^ random.choose(bits_of(page.mask))
 
 
 def words_of_cell(columns, numbers, others):
@@ -145,7 +133,7 @@ def all_words(pages):
             found.setdefault(word, len(found))
             if page.name == JUMP and page.drawn(word):
                 jumps.append(found[word])
-    random = Splitmix(SEED)
+    random = Random(SEED)
     for word in itertools.chain(words_of_cells(pages, random), (random.word() for _ in range(ANY_WORDS))):
         found.setdefault(word, len(found))
     below = jumps[len(jumps) // 2] + 1
