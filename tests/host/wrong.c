@@ -1,10 +1,9 @@
 /* Stands between the test and the library (the linker's --wrap) and makes one of the mistakes below, by the number in the
    environment's MISTAKE: the test has to notice each. */
 #include <stdint.h>
-#include <stdio.h>
-#include <stdlib.h>
 #include <string.h>
 
+#include "../mistake.h"
 #include "calmuredda.h"
 
 /* Mistakes of decoding, then of encoding; `run` counts up to the last. */
@@ -53,16 +52,7 @@ uint64_t __wrap_calmuredda_encode(const uint8_t *, size_t, uint64_t, uint8_t);
 
 static int mistake(void)
 {
-    static int number;
-    const char *text = getenv("MISTAKE");
-    if (number == 0 && text != NULL) {
-        number = atoi(text);
-    }
-    if (number < 1 || number > LAST) {
-        printf("MISTAKE is a number from 1 to %d\n", LAST);
-        exit(EXIT_FAILURE);
-    }
-    return number;
+    return mistake_up_to(LAST);
 }
 
 /* Reads or writes where the library must not. */

@@ -1,10 +1,9 @@
 /* Stands between the test and the library (the linker's --wrap) and makes one of the mistakes below, by the number in the
    environment's MISTAKE: the test has to notice each. */
 #include <stdint.h>
-#include <stdio.h>
-#include <stdlib.h>
 #include <string.h>
 
+#include "../mistake.h"
 #include "calmuredda.h"
 
 /* `run` counts up to the last. */
@@ -68,23 +67,9 @@ uint8_t __wrap_calmuredda_section_body(const uint8_t *, size_t, size_t, size_t *
 uint8_t __wrap_calmuredda_block(const uint8_t *, size_t, uint64_t, uint8_t, uint8_t, size_t, uint8_t *, size_t *);
 uint8_t __wrap_calmuredda_page(const uint8_t *, size_t, uint64_t, uint8_t, uint8_t, size_t, uint8_t *, size_t, size_t, size_t *, size_t *);
 
-static int mistake(void)
-{
-    static int number;
-    const char *text = getenv("MISTAKE");
-    if (number == 0 && text != NULL) {
-        number = atoi(text);
-    }
-    if (number < 1 || number > LAST) {
-        printf("MISTAKE is a number from 1 to %d\n", LAST);
-        exit(EXIT_FAILURE);
-    }
-    return number;
-}
-
 static int is(int number)
 {
-    return mistake() == number;
+    return mistake_up_to(LAST) == number;
 }
 
 /* Reads behind what is lent, or writes where only reading is lent. */
