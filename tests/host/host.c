@@ -1,17 +1,7 @@
 /* Holds the library for C against the answers in the frames on standard input, which the driver of tests/oracle writes (its mode
-   `records`).
-
-   What a call reads lies in memory that cannot be written, between memory that cannot be touched at all, once up to the very end
-   and once at any alignment near the start. What it writes to lies inside a pattern, all of which is compared afterwards. */
+   `records`). */
 #define _GNU_SOURCE
-#include <inttypes.h>
-#include <signal.h>
-#include <stdio.h>
-#include <stdlib.h>
-#include <string.h>
-#include <sys/mman.h>
-#include <unistd.h>
-
+#include "../lent.h"
 #include "calmuredda.h"
 #include "names.h"
 
@@ -22,13 +12,9 @@ enum {
     WORD_BYTES = 4,
     LONGEST_INPUT = 200,
     LONGEST_BUFFER = 200,
-    CANARY_BYTES = 64,
-    ALIGNMENTS = 16,
     AREA_BYTES = CANARY_BYTES + ALIGNMENTS + LONGEST_BUFFER + CANARY_BYTES,
-    PATTERNS = 251,
-    LENT_BYTES = 1 << 16, /* a multiple of every page size that is in use */
-    /* How often an empty slice is null; the two have no common factor, so that both are null at times, and one of them. */
-    NULL_INPUT_EVERY = 3,
+    /* How often an empty buffer is null. NULL_INPUT_EVERY has no factor in common with it, so that both are null at times, and one
+       of them. */
     NULL_BUFFER_EVERY = 5,
     MOST_COMPLAINTS = 5
 };
@@ -71,17 +57,14 @@ struct frame {
     uint8_t record[CALMUREDDA_RECORD_BYTES];
 };
 
-static uint64_t frames_read;
 static uint64_t slices_decoded;
 static uint64_t short_slices_decoded;
-static uint64_t calls;
-static uint64_t null_inputs;
 static uint64_t null_buffers;
 static uint64_t complaints;
 
 static void complain(const struct frame *frame, const char *what, uint64_t got, uint64_t wanted)
 {
-    printf("frame %" PRIu64 " (%c, %d bytes at %" PRIx64 ", flags %d and %d): %s %" PRIx64 ", wanted %" PRIx64 "\n", frames_read,
+    printf("frame %" PRIu64 " (%c, %d bytes at %" PRIx64 ", flags %d and %d): %s %" PRIx64 ", wanted %" PRIx64 "\n", asked_so_far,
            frame->kind, frame->length, frame->va, frame->big, frame->wide, what, got, wanted);
     complaints++;
     if (complaints == MOST_COMPLAINTS) {
@@ -90,43 +73,7 @@ static void complain(const struct frame *frame, const char *what, uint64_t got, 
     }
 }
 
-/* ── memory that is lent ── */
-
-static uint8_t *lent_writable;
-static const uint8_t *lent;
-
-static void need(int good, const char *what)
-{
-    if (!good) {
-        perror(what);
-        exit(EXIT_FAILURE);
-    }
-}
-
-/* One file, mapped twice: here it is written, and what the library is given can only be read. */
-static void make_lent(void)
-{
-    int file = memfd_create("lent", 0);
-    need(file >= 0 && ftruncate(file, LENT_BYTES) == 0, "memfd_create");
-    lent_writable = mmap(NULL, LENT_BYTES, PROT_READ | PROT_WRITE, MAP_SHARED, file, 0);
-    uint8_t *around = mmap(NULL, 3 * LENT_BYTES, PROT_NONE, MAP_PRIVATE | MAP_ANONYMOUS, -1, 0);
-    need(lent_writable != MAP_FAILED && around != MAP_FAILED, "mmap");
-    lent = mmap(around + LENT_BYTES, LENT_BYTES, PROT_READ, MAP_SHARED | MAP_FIXED, file, 0);
-    need(lent != MAP_FAILED, "mmap");
-}
-
-/* The input as the library is given it: up to the end in every second call, else near the start. */
-static const uint8_t *lend(const struct frame *frame)
-{
-    int at_end = calls % 2 == 0;
-    if (frame->length == 0 && calls % NULL_INPUT_EVERY == 0) {
-        null_inputs++;
-        return NULL;
-    }
-    size_t at = at_end ? (size_t)LENT_BYTES - frame->length : calls / 2 % ALIGNMENTS;
-    memcpy(lent_writable + at, frame->input, frame->length);
-    return lent + at;
-}
+/* ── decoding ── */
 
 /* A buffer inside the area, at any alignment. */
 static uint8_t *lend_buffer(uint8_t *area, size_t start, size_t size)
@@ -136,25 +83,6 @@ static uint8_t *lend_buffer(uint8_t *area, size_t start, size_t size)
         return NULL;
     }
     return area + start;
-}
-
-/* The fault is in the library's code, so that nothing of stdio is half done. */
-static void on_fault(int number)
-{
-    dprintf(STDOUT_FILENO, "frame %" PRIu64 ": signal %d, memory was touched that is not lent for it\n", frames_read, number);
-    _exit(EXIT_FAILURE);
-}
-
-/* ── decoding ── */
-
-static uint8_t pattern[AREA_BYTES + PATTERNS];
-
-/* All are odd, so that a zero which is written shows, and one which is not. */
-static void make_pattern(void)
-{
-    for (size_t i = 0; i < sizeof pattern; i++) {
-        pattern[i] = (uint8_t)(i * i + 5 * i + 1);
-    }
 }
 
 /* Names the first byte of the area that is not as wanted; offsets count from the buffer's start. */
@@ -186,7 +114,7 @@ static void check_buffer(const struct frame *frame, size_t size)
         memcpy(wanted + start, frame->record, CALMUREDDA_RECORD_BYTES);
     }
     uint8_t *buffer = lend_buffer(area, start, size);
-    uint8_t got = calmuredda_decode(lend(frame), frame->length, frame->va, frame->big, frame->wide, buffer, size);
+    uint8_t got = calmuredda_decode(lend(frame->input, frame->length), frame->length, frame->va, frame->big, frame->wide, buffer, size);
     calls++;
     if (got != answer) {
         complain(frame, "the decoder's number is", got, answer);
@@ -212,7 +140,7 @@ static void check_decode(const struct frame *frame)
 
 static void check_answer(const struct frame *frame)
 {
-    uint64_t got = calmuredda_encode(lend(frame), frame->length, frame->va, frame->wide);
+    uint64_t got = calmuredda_encode(lend(frame->input, frame->length), frame->length, frame->va, frame->wide);
     calls++;
     if (got != frame->answer) {
         complain(frame, "the encoder's answer is", got, frame->answer);
@@ -234,14 +162,14 @@ static void check_encode(const struct frame *frame, struct kind *kind)
 static void read_bytes(void *to, size_t count)
 {
     if (fread(to, 1, count, stdin) != count) {
-        printf("the frames end early, after %" PRIu64 " of them\n", frames_read);
+        printf("the frames end early, after %" PRIu64 " of them\n", asked_so_far);
         exit(EXIT_FAILURE);
     }
 }
 
 static void malformed(void)
 {
-    printf("frame %" PRIu64 " is malformed\n", frames_read);
+    printf("frame %" PRIu64 " is malformed\n", asked_so_far);
     exit(EXIT_FAILURE);
 }
 
@@ -286,10 +214,10 @@ static void check_frames(void)
         } else {
             check_encode(&frame, kind_of(&frame));
         }
-        frames_read++;
+        asked_so_far++;
     }
-    if (frame.answer != frames_read) {
-        complain(&frame, "number of frames", frames_read, frame.answer);
+    if (frame.answer != asked_so_far) {
+        complain(&frame, "number of frames", asked_so_far, frame.answer);
     }
 }
 
@@ -307,11 +235,7 @@ static void say_counts(void)
 
 int main(void)
 {
-    struct sigaction fault = {.sa_handler = on_fault};
-    sigaction(SIGSEGV, &fault, NULL);
-    sigaction(SIGBUS, &fault, NULL);
-    make_lent();
-    make_pattern();
+    begin_lending("frame");
     check_frames();
     if (complaints > 0 || !check_names()) {
         return EXIT_FAILURE;

@@ -1,18 +1,7 @@
 /* Holds the library's section files, blocks, pages and lines against the answers on standard input, a line each; README.md says what
-   stands in them.
-
-   What a call reads lies in memory that cannot be written, between memory that cannot be touched at all, once up to the very end
-   and once at any alignment near the start. What it writes to lies inside a pattern, all of which is compared afterwards, and in
-   every second call up to the end of what can be touched. */
+   stands in them. What a call writes to lies, in every second call, up to the end of what can be touched. */
 #define _GNU_SOURCE
-#include <inttypes.h>
-#include <signal.h>
-#include <stdio.h>
-#include <stdlib.h>
-#include <string.h>
-#include <sys/mman.h>
-#include <unistd.h>
-
+#include "../lent.h"
 #include "calmuredda.h"
 
 /* Once more, so that a header which says otherwise does not compile. */
@@ -45,12 +34,8 @@ enum {
     RANDOM_PAGES = 20000,
     SHORT_RECORDS_EVERY = 16,
 
-    CANARY_BYTES = 64,
-    ALIGNMENTS = 16,
-    PATTERNS = 251,
-    LENT_BYTES = 1 << 17,       /* multiples of every page size that is in use */
-    AREA_BYTES = 1 << 16,
-    NULL_EVERY = 3,             /* how often an empty slice is null */
+    AREA_BYTES = LONGEST_AREA,  /* a multiple of every page size that is in use */
+    NULL_BUFFER_EVERY = 3,      /* how often an empty buffer is null */
     MOST_COMPLAINTS = 5
 };
 
@@ -72,20 +57,18 @@ enum { HUGE = sizeof huge / sizeof huge[0] };
 /* A flag that is on is any number but 0. */
 static const uint8_t on_numbers[] = {1, 2, 128, 255};
 
-static uint64_t lines_read;
-static uint64_t calls;
 static uint64_t complaints;
 static uint64_t blocks_asked, pages_asked, lines_asked, files_asked;
 
 static void malformed(const char *what)
 {
-    printf("line %" PRIu64 " is malformed: %s\n", lines_read, what);
+    printf("line %" PRIu64 " is malformed: %s\n", asked_so_far, what);
     exit(EXIT_FAILURE);
 }
 
 static void complain(const char *what, uint64_t got, uint64_t wanted)
 {
-    printf("line %" PRIu64 ": %s %" PRIu64 ", wanted %" PRIu64 "\n", lines_read, what, got, wanted);
+    printf("line %" PRIu64 ": %s %" PRIu64 ", wanted %" PRIu64 "\n", asked_so_far, what, got, wanted);
     complaints++;
     if (complaints == MOST_COMPLAINTS) {
         printf("no more lines are looked at\n");
@@ -100,57 +83,15 @@ static void same(const char *what, uint64_t got, uint64_t wanted)
     }
 }
 
-/* ── memory that is lent ── */
+/* ── buffers ── */
 
-static uint8_t *lent_writable;
-static const uint8_t *lent;
 static uint8_t *area;
 static uint8_t wanted_area[AREA_BYTES];
-static uint8_t pattern[AREA_BYTES + PATTERNS];
 
-static void need(int good, const char *what)
+static void make_area(void)
 {
-    if (!good) {
-        perror(what);
-        exit(EXIT_FAILURE);
-    }
-}
-
-static uint8_t *between_walls(size_t size)
-{
-    uint8_t *around = mmap(NULL, size + 2 * LENT_BYTES, PROT_NONE, MAP_PRIVATE | MAP_ANONYMOUS, -1, 0);
-    need(around != MAP_FAILED, "mmap");
-    return around + LENT_BYTES;
-}
-
-/* One file, mapped twice: here it is written, and what the library is given can only be read. */
-static void make_lent(void)
-{
-    int file = memfd_create("lent", 0);
-    need(file >= 0 && ftruncate(file, LENT_BYTES) == 0, "memfd_create");
-    lent_writable = mmap(NULL, LENT_BYTES, PROT_READ | PROT_WRITE, MAP_SHARED, file, 0);
-    lent = mmap(between_walls(LENT_BYTES), LENT_BYTES, PROT_READ, MAP_SHARED | MAP_FIXED, file, 0);
     area = mmap(between_walls(AREA_BYTES), AREA_BYTES, PROT_READ | PROT_WRITE, MAP_PRIVATE | MAP_ANONYMOUS | MAP_FIXED, -1, 0);
-    need(lent_writable != MAP_FAILED && lent != MAP_FAILED && area != MAP_FAILED, "mmap");
-}
-
-/* All are odd, so that a zero which is written shows, and one which is not. */
-static void make_pattern(void)
-{
-    for (size_t i = 0; i < sizeof pattern; i++) {
-        pattern[i] = (uint8_t)(i * i + 5 * i + 1);
-    }
-}
-
-/* The bytes as the library is given them: up to the end in every second call, else near the start. */
-static const uint8_t *lend(const uint8_t *bytes, size_t length)
-{
-    size_t at = calls % 2 == 0 ? LENT_BYTES - length : calls / 2 % ALIGNMENTS;
-    if (length == 0 && calls % NULL_EVERY == 0) {
-        return NULL;
-    }
-    memcpy(lent_writable + at, bytes, length);
-    return lent + at;
+    need(area != MAP_FAILED, "mmap");
 }
 
 /* A buffer inside the pattern, or at its end. */
@@ -173,7 +114,7 @@ static struct buffer lend_buffer(size_t size)
         buffer.first = buffer.start - CANARY_BYTES;
         buffer.last = AREA_BYTES;
     }
-    buffer.bytes = size == 0 && calls % NULL_EVERY == 0 ? NULL : area + buffer.start;
+    buffer.bytes = size == 0 && calls % NULL_BUFFER_EVERY == 0 ? NULL : area + buffer.start;
     memcpy(area + buffer.first, pattern + calls % PATTERNS, buffer.last - buffer.first);
     return buffer;
 }
@@ -198,13 +139,6 @@ static void check_buffer(const struct buffer *buffer, size_t place, const uint8_
             return;
         }
     }
-}
-
-/* The fault is in the library's code, so that nothing of stdio is half done. */
-static void on_fault(int number)
-{
-    dprintf(STDOUT_FILENO, "line %" PRIu64 ": signal %d, memory was touched that is not lent for it\n", lines_read, number);
-    _exit(EXIT_FAILURE);
 }
 
 /* ── columns ── */
@@ -700,17 +634,14 @@ static void check_input_line(void)
 
 int main(void)
 {
-    struct sigaction fault = {.sa_handler = on_fault};
     char *line = NULL;
     size_t room = 0;
     ssize_t length;
-    sigaction(SIGSEGV, &fault, NULL);
-    sigaction(SIGBUS, &fault, NULL);
-    make_lent();
-    make_pattern();
+    begin_lending("line");
+    make_area();
     check_scope();
     while ((length = getline(&line, &room, stdin)) > 0) {
-        lines_read++;
+        asked_so_far++;
         if (line[length - 1] == '\n') {
             line[length - 1] = '\0';
         }
