@@ -5,6 +5,11 @@
 #include <stdio.h>
 #include <stdlib.h>
 
+/* A function of the library, by the second name, and what stands before it, by the first: the linker's --wrap. */
+#define WRAPPED(type, name, ...)                 \
+    type __wrap_calmuredda_##name(__VA_ARGS__); \
+    type __real_calmuredda_##name(__VA_ARGS__)
+
 /* The number in the environment's MISTAKE, from 1 to the last. */
 static int mistake_up_to(int last)
 {

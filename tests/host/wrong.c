@@ -45,10 +45,8 @@ enum {
 };
 static const uint32_t all_but_rs_and_rd = 0xfc1f07ff;
 
-uint8_t __real_calmuredda_decode(const uint8_t *, size_t, uint64_t, uint8_t, uint8_t, uint8_t *, size_t);
-uint64_t __real_calmuredda_encode(const uint8_t *, size_t, uint64_t, uint8_t);
-uint8_t __wrap_calmuredda_decode(const uint8_t *, size_t, uint64_t, uint8_t, uint8_t, uint8_t *, size_t);
-uint64_t __wrap_calmuredda_encode(const uint8_t *, size_t, uint64_t, uint8_t);
+WRAPPED(uint8_t, decode, const uint8_t *, size_t, uint64_t, uint8_t, uint8_t, uint8_t *, size_t);
+WRAPPED(uint64_t, encode, const uint8_t *, size_t, uint64_t, uint8_t);
 
 static int mistake(void)
 {
