@@ -11,7 +11,7 @@ use Rattle.word.specs.Word.{Field, sameField, Field-discrete, Fields, room, Fit
 use Rattle.classes.specs.Meaning.{nopLike}
 use Rattle.classes.specs.Refusals.{elem}
 use Rattle.classes.proofs.Tests.{allBelow, below, and-i, implied, at-true}
-use Rattle.decode.specs.Groups.{NoneOf}
+use Rattle.decode.specs.Private.Groups.{NoneOf}
 
 -- ── facts ──
 

@@ -9,7 +9,7 @@ use Rattle.word.specs.Word.{fieldsOf, rs, rt, sa}
 use Rattle.reading.specs.declared.Op.{Op}
 use Rattle.reading.specs.declared.Op.the-variants.{Reg, Imm}
 use Rattle.classes.specs.Meaning.{out, outs, effectOf}
-use Rattle.decode.specs.Answer.{immediateOf, twoBy, threeBy, writesIf, writtenIf, fieldSize, fieldBy}
+use Rattle.decode.specs.Private.Answer.{immediateOf, twoBy, threeBy, writesIf, writtenIf, fieldSize, fieldBy}
 
 pub two-by : (b : Bool) (w va : ℕ) → outs (twoBy b) va (fieldsOf w) ≡ Reg (fieldsOf w rt) ∷ Imm (immediateOf b w) ∷ []
 unfolding outs out

@@ -11,8 +11,8 @@ use Rattle.reading.specs.Reading.{refusedOf}
 use Rattle.classes.specs.Row.{Form, Control, plain, Change, nothing, Row}
 use Rattle.classes.specs.Meaning.{outs, reading, meaning}
 use Rattle.classes.specs.Decoded.{acceptedAs, decodedOf}
-use Rattle.decode.specs.Answer.{columns}
-use Rattle.decode.specs.Groups.{NoneOf, Behind, single, double, word, long, Format}
+use Rattle.decode.specs.Private.Answer.{columns}
+use Rattle.decode.specs.Private.Groups.{NoneOf, Behind, single, double, word, long, Format}
 use Rattle.decode.proofs.Facts.{Fact, _≐_, _noneOf_, Known}
 use Rattle.decode.proofs.Arms.{rowBy, numberBy, accepts, refuses}
 

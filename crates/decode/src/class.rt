@@ -2,7 +2,7 @@
 // The arms answer with this and not with a reading, which is 168 bytes and would be moved at every step of the way.
 use reading::Flow;
 
-pub enum Class {
+pub(crate) enum Class {
     // With the refusal number.
     Refused(u8),
     // The others have the mnemonic first, unless there is only one. Without operands, with the flow:

@@ -10,7 +10,7 @@ ghost use Rattle.classes.specs.Table.{rt-uimm, rt-base, ft-base, hint-base, rt-
 ghost use Rattle.reading.specs.Kind as kind;
 ghost use Rattle.reading.specs.declared.Flow.the-variants as flow;
 ghost use Rattle.reading.specs.declared.Effect.the-variants as effect;
-ghost use Rattle.decode.specs.Answer.{straight, turning, turns, Reads, immediateOf, twoBy, threeBy, writtenIf, writesIf, fieldSize, fieldBy};
+ghost use Rattle.decode.specs.Private.Answer.{straight, turning, turns, Reads, immediateOf, twoBy, threeBy, writtenIf, writesIf, fieldSize, fieldBy};
 use reading::Decoded;
 use reading::Effect;
 use reading::Flow;
@@ -100,7 +100,7 @@ fn turn(m: u8, count: u8, ops: [Operand; 4], flow: Flow, target: Target) -> Deco
 
 // ── no operands ──
 
-pub fn alone(m: u8, flow: Flow) -> Decoded
+pub(crate) fn alone(m: u8, flow: Flow) -> Decoded
     ensures { λ r. ⌜ r ≡ straight m 0 (slots []) flow effect.None ⌝ }
 {
     Decoded {
@@ -119,7 +119,7 @@ pub fn alone(m: u8, flow: Flow) -> Decoded
 
 // ── registers ──
 
-pub fn r3(m: u8, w: u32) -> Decoded
+pub(crate) fn r3(m: u8, w: u32) -> Decoded
     ensures { λ r. ⌜ Reads r m rd-rs-rt plain writes w ⌝ }
 {
     let rd = word::rd(w);
@@ -127,7 +127,7 @@ pub fn r3(m: u8, w: u32) -> Decoded
     i(m, 3, ops, Effect::Write(rd))
 }
 
-pub fn shift_variable(m: u8, w: u32) -> Decoded
+pub(crate) fn shift_variable(m: u8, w: u32) -> Decoded
     ensures { λ r. ⌜ Reads r m rd-rt-rs plain writes w ⌝ }
 {
     let rd = word::rd(w);
@@ -135,7 +135,7 @@ pub fn shift_variable(m: u8, w: u32) -> Decoded
     i(m, 3, ops, Effect::Write(rd))
 }
 
-pub fn shift(m: u8, w: u32) -> Decoded
+pub(crate) fn shift(m: u8, w: u32) -> Decoded
     ensures { λ r. ⌜ Reads r m rd-rt-sa plain writes w ⌝ }
 {
     let rd = word::rd(w);
@@ -144,7 +144,7 @@ pub fn shift(m: u8, w: u32) -> Decoded
     i(m, 3, ops, Effect::Write(rd))
 }
 
-pub fn rd_rs(m: u8, w: u32) -> Decoded
+pub(crate) fn rd_rs(m: u8, w: u32) -> Decoded
     ensures { λ r. ⌜ Reads r m rd-rs plain writes w ⌝ }
 {
     let rd = word::rd(w);
@@ -152,7 +152,7 @@ pub fn rd_rs(m: u8, w: u32) -> Decoded
     i(m, 2, ops, Effect::Write(rd))
 }
 
-pub fn rd_rt(m: u8, w: u32) -> Decoded
+pub(crate) fn rd_rt(m: u8, w: u32) -> Decoded
     ensures { λ r. ⌜ Reads r m rd-rt plain writes w ⌝ }
 {
     let rd = word::rd(w);
@@ -160,7 +160,7 @@ pub fn rd_rt(m: u8, w: u32) -> Decoded
     i(m, 2, ops, Effect::Write(rd))
 }
 
-pub fn rs_rt(m: u8, w: u32) -> Decoded
+pub(crate) fn rs_rt(m: u8, w: u32) -> Decoded
     ensures { λ r. ⌜ Reads r m rs-rt plain nothing w ⌝ }
 {
     let ops = two(Op::Reg(word::rs(w)), Op::Reg(word::rt(w)));
@@ -168,7 +168,7 @@ pub fn rs_rt(m: u8, w: u32) -> Decoded
 }
 
 // `mfhi`, `mflo`.
-pub fn mfhi(m: u8, w: u32) -> Decoded
+pub(crate) fn mfhi(m: u8, w: u32) -> Decoded
     ensures { λ r. ⌜ Reads r m one-rd plain writes w ⌝ }
 {
     let rd = word::rd(w);
@@ -177,7 +177,7 @@ pub fn mfhi(m: u8, w: u32) -> Decoded
 }
 
 // `mthi`, `mtlo`.
-pub fn mthi(m: u8, w: u32) -> Decoded
+pub(crate) fn mthi(m: u8, w: u32) -> Decoded
     ensures { λ r. ⌜ Reads r m one-rs plain nothing w ⌝ }
 {
     let ops = one(Op::Reg(word::rs(w)));
@@ -186,7 +186,7 @@ pub fn mthi(m: u8, w: u32) -> Decoded
 
 // ── jumps and branches ──
 
-pub fn jr(w: u32) -> Decoded
+pub(crate) fn jr(w: u32) -> Decoded
     ensures { λ r. ⌜ Reads r kind.jr one-rs byRegister nothing w ⌝ }
 {
     let rs = word::rs(w);
@@ -197,7 +197,7 @@ pub fn jr(w: u32) -> Decoded
     }
 }
 
-pub fn jalr(w: u32) -> Decoded
+pub(crate) fn jalr(w: u32) -> Decoded
     ensures { λ r. ⌜ Reads r kind.jalr link call nothing w ⌝ }
 {
     let rd = word::rd(w);
@@ -216,7 +216,7 @@ pub fn jalr(w: u32) -> Decoded
 }
 
 // `j`, `jal`.
-pub fn jump(m: u8, flow: Flow, w: u32, va: u64) -> Decoded
+pub(crate) fn jump(m: u8, flow: Flow, w: u32, va: u64) -> Decoded
     ensures { λ r. ⌜ r ≡ turns m instr-index flow w va ⌝ }
 {
     let t = word::jump_target(w, va);
@@ -225,7 +225,7 @@ pub fn jump(m: u8, flow: Flow, w: u32, va: u64) -> Decoded
 }
 
 // Without a register: `b`, `bal`, and `bc1` words, which look at a condition code.
-pub fn branch(m: u8, flow: Flow, w: u32, va: u64) -> Decoded
+pub(crate) fn branch(m: u8, flow: Flow, w: u32, va: u64) -> Decoded
     ensures { λ r. ⌜ r ≡ turns m offset flow w va ⌝ }
 {
     let t = word::branch_target(w, va);
@@ -233,7 +233,7 @@ pub fn branch(m: u8, flow: Flow, w: u32, va: u64) -> Decoded
     turn(m, 1, ops, flow, Target::At(t))
 }
 
-pub fn branch_rs(m: u8, flow: Flow, w: u32, va: u64) -> Decoded
+pub(crate) fn branch_rs(m: u8, flow: Flow, w: u32, va: u64) -> Decoded
     ensures { λ r. ⌜ r ≡ turns m rs-offset flow w va ⌝ }
 {
     let t = word::branch_target(w, va);
@@ -241,7 +241,7 @@ pub fn branch_rs(m: u8, flow: Flow, w: u32, va: u64) -> Decoded
     turn(m, 2, ops, flow, Target::At(t))
 }
 
-pub fn branch_rs_rt(m: u8, flow: Flow, w: u32, va: u64) -> Decoded
+pub(crate) fn branch_rs_rt(m: u8, flow: Flow, w: u32, va: u64) -> Decoded
     ensures { λ r. ⌜ r ≡ turns m rs-rt-offset flow w va ⌝ }
 {
     let t = word::branch_target(w, va);
@@ -258,7 +258,7 @@ fn immediate(signed: bool, w: u32) -> i64
     if signed { word::simm(w) } else { word::uimm(w) }
 }
 
-pub fn add_imm(m: u8, signed: bool, w: u32) -> Decoded
+pub(crate) fn add_imm(m: u8, signed: bool, w: u32) -> Decoded
     ensures { λ r. ⌜ Reads r m (threeBy signed) plain adds w ⌝ }
 {
     let rt = word::rt(w);
@@ -268,7 +268,7 @@ pub fn add_imm(m: u8, signed: bool, w: u32) -> Decoded
     i(m, 3, ops, Effect::AddImm(rt, rs, imm))
 }
 
-pub fn write_imm(m: u8, signed: bool, w: u32) -> Decoded
+pub(crate) fn write_imm(m: u8, signed: bool, w: u32) -> Decoded
     ensures { λ r. ⌜ Reads r m (threeBy signed) plain writes w ⌝ }
 {
     let rt = word::rt(w);
@@ -278,7 +278,7 @@ pub fn write_imm(m: u8, signed: bool, w: u32) -> Decoded
 }
 
 // The source has rs in the effect, and rs is 0 here.
-pub fn li(signed: bool, w: u32) -> Decoded
+pub(crate) fn li(signed: bool, w: u32) -> Decoded
     ensures { λ r. ⌜ Reads r kind.li (twoBy signed) plain sets w ⌝ }
 {
     let rt = word::rt(w);
@@ -287,7 +287,7 @@ pub fn li(signed: bool, w: u32) -> Decoded
     i(kind::LI, 2, ops, Effect::AddImm(rt, 0, imm))
 }
 
-pub fn lui(w: u32) -> Decoded
+pub(crate) fn lui(w: u32) -> Decoded
     ensures { λ r. ⌜ Reads r kind.lui rt-uimm plain setsUpper w ⌝ }
 {
     let rt = word::rt(w);
@@ -308,7 +308,7 @@ fn written(writes: bool, rt: u8) -> Effect
     }
 }
 
-pub fn cop0(m: u8, writes: bool, w: u32) -> Decoded
+pub(crate) fn cop0(m: u8, writes: bool, w: u32) -> Decoded
     ensures { λ r. ⌜ Reads r m rt-cop0 plain (writesIf writes) w ⌝ }
 {
     let rt = word::rt(w);
@@ -327,7 +327,7 @@ fn field_size(inserts: bool, w: u32) -> i64
 }
 
 // `ext`, `ins`.
-pub fn bit_field(m: u8, inserts: bool, w: u32) -> Decoded
+pub(crate) fn bit_field(m: u8, inserts: bool, w: u32) -> Decoded
     ensures { λ r. ⌜ Reads r m (fieldBy inserts) plain writes w ⌝ }
 {
     let rt = word::rt(w);
@@ -338,7 +338,7 @@ pub fn bit_field(m: u8, inserts: bool, w: u32) -> Decoded
     i(m, 4, ops, Effect::Write(rt))
 }
 
-pub fn rdhwr(w: u32) -> Decoded
+pub(crate) fn rdhwr(w: u32) -> Decoded
     ensures { λ r. ⌜ Reads r kind.rdhwr rt-hwr plain writes w ⌝ }
 {
     let rt = word::rt(w);
@@ -350,7 +350,7 @@ pub fn rdhwr(w: u32) -> Decoded
 // ── COP1 ──
 
 // Moves to and from COP1.
-pub fn cop1(m: u8, writes: bool, w: u32) -> Decoded
+pub(crate) fn cop1(m: u8, writes: bool, w: u32) -> Decoded
     ensures { λ r. ⌜ Reads r m rt-fs plain (writesIf writes) w ⌝ }
 {
     let rt = word::rt(w);
@@ -358,7 +358,7 @@ pub fn cop1(m: u8, writes: bool, w: u32) -> Decoded
     i(m, 2, ops, written(writes, rt))
 }
 
-pub fn fd_fs_ft(m: u8, w: u32) -> Decoded
+pub(crate) fn fd_fs_ft(m: u8, w: u32) -> Decoded
     ensures { λ r. ⌜ Reads r m fd-fs-ft plain nothing w ⌝ }
 {
     let ops = three(
@@ -369,14 +369,14 @@ pub fn fd_fs_ft(m: u8, w: u32) -> Decoded
     i(m, 3, ops, Effect::None)
 }
 
-pub fn fd_fs(m: u8, w: u32) -> Decoded
+pub(crate) fn fd_fs(m: u8, w: u32) -> Decoded
     ensures { λ r. ⌜ Reads r m fd-fs plain nothing w ⌝ }
 {
     let ops = two(Op::FReg(word::sa(w)), Op::FReg(word::rd(w)));
     i(m, 2, ops, Effect::None)
 }
 
-pub fn fs_ft(m: u8, w: u32) -> Decoded
+pub(crate) fn fs_ft(m: u8, w: u32) -> Decoded
     ensures { λ r. ⌜ Reads r m fs-ft plain nothing w ⌝ }
 {
     let ops = two(Op::FReg(word::rd(w)), Op::FReg(word::rt(w)));
@@ -385,7 +385,7 @@ pub fn fs_ft(m: u8, w: u32) -> Decoded
 
 // ── loads and stores ──
 
-pub fn load(m: u8, size: u8, w: u32) -> Decoded
+pub(crate) fn load(m: u8, size: u8, w: u32) -> Decoded
     ensures { λ r. ⌜ Reads r m rt-base plain (loads size) w ⌝ }
 {
     let rt = word::rt(w);
@@ -395,7 +395,7 @@ pub fn load(m: u8, size: u8, w: u32) -> Decoded
     i(m, 2, ops, Effect::Mem(rt, rs, imm, size))
 }
 
-pub fn store(m: u8, size: u8, w: u32) -> Decoded
+pub(crate) fn store(m: u8, size: u8, w: u32) -> Decoded
     ensures { λ r. ⌜ Reads r m rt-base plain (stores size) w ⌝ }
 {
     let rs = word::rs(w);
@@ -405,7 +405,7 @@ pub fn store(m: u8, size: u8, w: u32) -> Decoded
 }
 
 // `sc`, `scd`: the register gets whether the store was made.
-pub fn store_conditional(m: u8, w: u32) -> Decoded
+pub(crate) fn store_conditional(m: u8, w: u32) -> Decoded
     ensures { λ r. ⌜ Reads r m rt-base plain writes w ⌝ }
 {
     let rt = word::rt(w);
@@ -415,7 +415,7 @@ pub fn store_conditional(m: u8, w: u32) -> Decoded
 }
 
 // `lwc1`, `ldc1`, `swc1`, `sdc1`: no general register is loaded.
-pub fn float_mem(m: u8, size: u8, w: u32) -> Decoded
+pub(crate) fn float_mem(m: u8, size: u8, w: u32) -> Decoded
     ensures { λ r. ⌜ Reads r m ft-base plain (stores size) w ⌝ }
 {
     let ft = word::rt(w);
@@ -426,7 +426,7 @@ pub fn float_mem(m: u8, size: u8, w: u32) -> Decoded
 }
 
 // `cache`, `pref`.
-pub fn hint_mem(m: u8, w: u32) -> Decoded
+pub(crate) fn hint_mem(m: u8, w: u32) -> Decoded
     ensures { λ r. ⌜ Reads r m hint-base plain nothing w ⌝ }
 {
     let hint = word::number(word::rt(w));

@@ -7,7 +7,7 @@ ghost use Rattle.word.specs.Word as word;
 ghost use Rattle.word.specs.Word.{fieldsOf};
 ghost use Rattle.classes.specs.Decoded.{decodedOf};
 ghost use Rattle.decode.specs.Bytes.{wordIn, decodedIn};
-ghost use Rattle.decode.specs.Groups.{Is, Each, EachHanded, Group, Handed, Special, Format, grouped, branches, immediates, shifts, moves, arithmetics};
+ghost use Rattle.decode.specs.Private.Groups.{Is, Each, EachHanded, Group, Handed, Special, Format, grouped, branches, immediates, shifts, moves, arithmetics};
 
 mod class;
 mod forms;

@@ -18,7 +18,7 @@ use Rattle.inverse.proofs.Fill.{part, one-less, filled}
 use Rattle.inverse.proofs.Good.{least, base}
 use Rattle.inverse.proofs.Tables.{first}
 use Rattle.encode.specs.declared.stem.Stem.{Stem}
-use Rattle.encode.specs.Stem.{planOf, Serves, Roomy, Is}
+use Rattle.encode.specs.Private.Stem.{planOf, Serves, Roomy, Is}
 
 -- ── forms that are filled in the same way ──
 

@@ -28,7 +28,7 @@ use Rattle.inverse.proofs.Tables.{pick, first, pick-first, pick-suited, pick-ev
 use Rattle.inverse.proofs.Smallest.{operandAt}
 use Rattle.encode.specs.declared.stem.Stem.{Stem}
 use Rattle.encode.specs.declared.stem.Stem.the-variants as stem
-use Rattle.encode.specs.Stem.{planOf, four, wordBy, Serves, Is, For}
+use Rattle.encode.specs.Private.Stem.{planOf, four, wordBy, Serves, Is, For}
 
 -- ── any mnemonic but `li` ──
 

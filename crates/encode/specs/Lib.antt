@@ -1,1 +1,1 @@
-pub mod Stem
+pub mod Private

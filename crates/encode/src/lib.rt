@@ -10,7 +10,7 @@ ghost use Rattle.inverse.proofs.Fill.{filled};
 ghost use Rattle.inverse.proofs.Good.{inSigned};
 ghost use Rattle.inverse.proofs.Rows.{afterNops};
 ghost use Rattle.inverse.proofs.Smallest.{operandAt};
-ghost use Rattle.encode.specs.Stem.{planOf, four, wordBy, Roomy, For, Candidate};
+ghost use Rattle.encode.specs.Private.Stem.{planOf, four, wordBy, Roomy, For, Candidate};
 
 mod put;
 mod stem;

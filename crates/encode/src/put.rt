@@ -54,32 +54,32 @@ fn low(o: Op) -> u32
     (number_of(o) % REGISTERS) as u32
 }
 
-pub fn rs(o: Op) -> u32
+pub(crate) fn rs(o: Op) -> u32
     ensures { λ r. ⌜ r ≡ at word.rs o ⌝ }
 {
     low(o) << 21
 }
 
-pub fn rt(o: Op) -> u32
+pub(crate) fn rt(o: Op) -> u32
     ensures { λ r. ⌜ r ≡ at word.rt o ⌝ }
 {
     low(o) << 16
 }
 
-pub fn rd(o: Op) -> u32
+pub(crate) fn rd(o: Op) -> u32
     ensures { λ r. ⌜ r ≡ at word.rd o ⌝ }
 {
     low(o) << 11
 }
 
-pub fn sa(o: Op) -> u32
+pub(crate) fn sa(o: Op) -> u32
     ensures { λ r. ⌜ r ≡ at word.sa o ⌝ }
 {
     low(o) << 6
 }
 
 // `jalr rs`, where rd is 31, or `jalr rd, rs`.
-pub fn link(n: u8, a: Op, b: Op) -> u32
+pub(crate) fn link(n: u8, a: Op, b: Op) -> u32
     ensures { λ r. ⌜ r ≡ cond (eqb n 1) (at word.rs a + 63488) (at word.rd a + at word.rs b) ⌝ }
 {
     if n == 1 {
@@ -99,14 +99,14 @@ fn last_bit(o: Op, first: u32) -> u32
 }
 
 // Of `ext` the size is one more than rd, wherever the field begins.
-pub fn ext_size(o: Op) -> u32
+pub(crate) fn ext_size(o: Op) -> u32
     ensures { λ r. ⌜ r ≡ lastBit (numberOf o) 0 * 2048 ⌝ }
 {
     last_bit(o, 0)
 }
 
 // Of `ins` it goes by the first bit.
-pub fn ins_size(o: Op, first: Op) -> u32
+pub(crate) fn ins_size(o: Op, first: Op) -> u32
     ensures { λ r. ⌜ r ≡ lastBit (numberOf o) (numberOf first % 32) * 2048 ⌝ }
 {
     last_bit(o, low(first))
@@ -114,21 +114,21 @@ pub fn ins_size(o: Op, first: Op) -> u32
 
 // ── immediates and targets ──
 
-pub fn imm(o: Op) -> u32
+pub(crate) fn imm(o: Op) -> u32
     ensures { λ r. ⌜ r ≡ numberOf o % 65536 ⌝ }
 {
     (number_of(o) % IMMEDIATES) as u32
 }
 
 // offset(base): the base goes into rs.
-pub fn base(o: Op) -> u32
+pub(crate) fn base(o: Op) -> u32
     ensures { λ r. ⌜ r ≡ baseOf o % 32 * 2097152 + numberOf o % 65536 ⌝ }
 {
     (((base_of(o) % 32) as u32) << 21) + imm(o)
 }
 
 // The offset of a branch at va.
-pub fn offset(o: Op, va: u64) -> u32
+pub(crate) fn offset(o: Op, va: u64) -> u32
     ensures { λ r. ⌜ (r ≡ branchBack va (numberOf o)) × (r < 65536) ⌝ }
 {
     let next = std::num::wrapping_add_u64(va, 4);
@@ -137,7 +137,7 @@ pub fn offset(o: Op, va: u64) -> u32
 }
 
 // The index of a jump.
-pub fn index(o: Op) -> u32
+pub(crate) fn index(o: Op) -> u32
     ensures { λ r. ⌜ r ≡ numberOf o / 4 % 67108864 ⌝ }
 {
     (number_of(o) / 4 % INDEXES) as u32

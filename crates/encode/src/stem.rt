@@ -1,7 +1,7 @@
 // A class as the encoder sees it: its least word, and by the variant what is put into it. A variant is named by where the operands go: a
 // register or a number into a field, an index, an offset, an immediate, a base with its offset.
 
-pub enum Stem {
+pub(crate) enum Stem {
     Alone(u32),
     Rs(u32),
     Rd(u32),

@@ -1,12 +1,12 @@
 // The class that has a mnemonic's smallest words: its least word, and the shape of its operands. The words are those of the table of
 // classes with nothing put in, and the arms stand in its order; of twins it is the class that comes first, whose words are smaller.
 ghost use Rattle.reading.specs.Kind as kind;
-ghost use Rattle.encode.specs.Stem.{Is, Between};
+ghost use Rattle.encode.specs.Private.Stem.{Is, Between};
 use crate::stem::Stem;
 use reading::kind;
 
 // A number that is no mnemonic has no class, and any word will do, since none has its reading.
-pub fn stem_of(m: u8) -> Stem
+pub(crate) fn stem_of(m: u8) -> Stem
     ensures { λ r. ⌜ Is r m ⌝ }
 {
     if m > kind::SD {

@@ -14,7 +14,7 @@ use Rattle.names.proofs.Same.{same-eq}
 use Rattle.classes.proofs.Tests.{and-l, and-r}
 use Rattle.buffers.specs.Bytes.{placed}
 use Rattle.text.specs.Text.{beforeZero}
-use Rattle.text.specs.Writes.{Wrote}
+use Rattle.text.specs.Private.Writes.{Wrote}
 use Rattle.text.proofs.Rows.{wrote, first}
 use Rattle.line.specs.Line.{textOf, registerName}
 

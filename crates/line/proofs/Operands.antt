@@ -23,11 +23,11 @@ use Rattle.reading.specs.Reading.{unused}
 use Rattle.names.specs.Names.{letter, letters}
 use Rattle.buffers.specs.Bytes.{placed}
 use Rattle.text.specs.Text.{decimalOf}
-use Rattle.text.specs.Writes.{Wrote}
+use Rattle.text.specs.Private.Writes.{Wrote}
 use Rattle.text.proofs.Lengths.{decimal-most}
 use Rattle.text.proofs.Rows.{wrote, nothing, after, bound, kept}
 use Rattle.line.specs.Line.{textOf, opText, listed, used, lineOf, registered, allRegistered, printable}
-use Rattle.line.specs.Steps.{before}
+use Rattle.line.specs.Private.Steps.{before}
 
 -- ── a signed number, as the code hands it on ──
 

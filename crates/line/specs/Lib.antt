@@ -1,3 +1,3 @@
 pub mod Line
-pub mod Steps
 pub mod Theorems
+pub mod Private

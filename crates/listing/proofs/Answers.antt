@@ -16,7 +16,7 @@ use Rattle.line.proofs.Readable.{readable}
 use Rattle.listing.specs.declared.View.{View}
 use Rattle.listing.specs.Body.{addressAt, decodedAt, isRefused}
 use Rattle.listing.specs.Page.{answerText}
-use Rattle.listing.specs.Steps.{Answers}
+use Rattle.listing.specs.Private.Steps.{Answers}
 use Rattle.line.proofs.Short.{blank-short, short}
 
 blank-lined : printable blankInsn ≡ true

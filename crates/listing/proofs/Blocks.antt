@@ -12,7 +12,7 @@ use Rattle.listing.specs.declared.View.{View}
 use Rattle.listing.specs.declared.Ended.{Ended}
 use Rattle.listing.specs.Body.{wordsIn, decodedAt, isRefused}
 use Rattle.listing.specs.Block.{block, withOneMore, slotEnd, blockFrom}
-use Rattle.listing.specs.Steps.{turnOf}
+use Rattle.listing.specs.Private.Steps.{turnOf}
 
 -- ── the cases of one word ──
 

@@ -13,7 +13,7 @@ use borrow.Rule.Slice.PartMut.{putMid, midOf, put-same}
 use Rattle.buffers.specs.Bytes.{over, overAt}
 use Rattle.buffers.proofs.Laws.{tail-part, lent-over, then-at}
 use Rattle.listing.specs.Page.{linesFrom, fitting}
-use Rattle.listing.specs.Steps.{whole}
+use Rattle.listing.specs.Private.Steps.{whole}
 
 -- ── one line more ──
 

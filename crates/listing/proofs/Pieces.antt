@@ -12,13 +12,13 @@ use Rattle.buffers.specs.Bytes.{over, placed}
 use Rattle.buffers.proofs.Laws.{first-at, next-at, then-at, at-start, lent-over}
 use Rattle.names.specs.Names.{letter, letters}
 use Rattle.text.specs.Text.{numeralOf, hexOf}
-use Rattle.text.specs.Writes.{Wrote}
+use Rattle.text.specs.Private.Writes.{Wrote}
 use Rattle.text.proofs.Lengths.{hex-long}
 use Rattle.line.specs.Line.{textOf, lineOf, printNumber, printed}
 use Rattle.listing.specs.declared.View.{View}
 use Rattle.listing.specs.Body.{addressAt, wordAt, decodedAt}
 use Rattle.listing.specs.Page.{answerText, wordLine}
-use Rattle.listing.specs.Steps.{Answers, columnsOf}
+use Rattle.listing.specs.Private.Steps.{Answers, columnsOf}
 
 -- ── texts ──
 

@@ -11,7 +11,7 @@ use Rattle.listing.specs.declared.Ended.{Ended}
 use Rattle.listing.specs.Body.{wordsIn}
 use Rattle.listing.specs.Block.{block, blockFrom, blockOf}
 use Rattle.listing.specs.Page.{pageWords, pageNumber}
-use Rattle.listing.specs.Steps.{turnOf}
+use Rattle.listing.specs.Private.Steps.{turnOf}
 use Rattle.listing.specs.Theorems.{Theorems}
 use Rattle.listing.proofs.Words.{refused-most}
 use Rattle.listing.proofs.Blocks.{turn-within, ends-here, goes-on}

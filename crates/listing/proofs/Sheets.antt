@@ -12,7 +12,7 @@ use Rattle.buffers.specs.Bytes.{overAt}
 use Rattle.listing.specs.declared.View.{View}
 use Rattle.listing.specs.Body.{wordsIn}
 use Rattle.listing.specs.Page.{wordLine, linesFrom, fitting, pageWords, pageBytes, pageNumber, pageOf}
-use Rattle.listing.specs.Steps.{nothing}
+use Rattle.listing.specs.Private.Steps.{nothing}
 use Rattle.listing.proofs.Pages.{run, one-fits, none-fits, run-more, no-lines, over-nothing}
 use Rattle.listing.proofs.Pieces.{columns-long, wordLine-is, line-some}
 use Rattle.listing.proofs.Answers.{answer-most}

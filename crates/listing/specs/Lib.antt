@@ -1,5 +1,5 @@
 pub mod Body
 pub mod Block
 pub mod Page
-pub mod Steps
 pub mod Theorems
+pub mod Private

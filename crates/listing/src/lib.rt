@@ -4,12 +4,12 @@ ghost use mathlib.Core.Path.{_≡_};
 ghost use Prim.Native.Nat.{_+_, _-_, _^_, _≤_, _<_};
 ghost use lib.ListN.{length};
 ghost use Rattle.buffers.specs.Bytes.{over, overAt};
-ghost use Rattle.text.specs.Writes.{Wrote};
+ghost use Rattle.text.specs.Private.Writes.{Wrote};
 ghost use Rattle.listing.specs.Body.{wordsIn, addressAt, wordAt, decodedAt, refusedIn};
 ghost use Rattle.listing.specs.Block as Block;
 ghost use Rattle.listing.specs.Block.{blockOf};
 ghost use Rattle.listing.specs.Page.{answerText, wordLine, pageWords, pageBytes, pageOf};
-ghost use Rattle.listing.specs.Steps.{turnOf, Answers, columnsOf, whole, nothing};
+ghost use Rattle.listing.specs.Private.Steps.{turnOf, Answers, columnsOf, whole, nothing};
 use reading::Decoded;
 
 // The index is not below the word count.

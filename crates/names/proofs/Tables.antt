@@ -11,7 +11,7 @@ use lib.ListN.{take, drop, getD, List·getD-eq-default}
 use Rattle.buffers.specs.Bytes.{numAt}
 use Rattle.reading.specs.Kind.{many}
 use Rattle.names.specs.Names.{padded, registers, registerBytes, nameBytes, same, noKind, kindOf}
-use Rattle.names.specs.Table.{IsRow, IsEntry, Candidate}
+use Rattle.names.specs.Private.Table.{IsRow, IsEntry, Candidate}
 use Rattle.classes.proofs.Tests.{allBelow, below}
 use Rattle.names.proofs.Same.{same-eq}
 use Rattle.names.proofs.Found.{HasKind, kind-or-none, no-name, no-kind, back}

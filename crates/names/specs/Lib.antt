@@ -1,3 +1,3 @@
 pub mod Names
-pub mod Table
 pub mod Theorems
+pub mod Private

@@ -5,7 +5,7 @@ ghost use mathlib.Core.Bool.{true};
 ghost use mathlib.Core.Logic.{_↔_};
 ghost use Prim.Native.Nat.{_+_, _*_, _≤_, _<_};
 ghost use Rattle.names.specs.Names.{registerBytes, nameBytes, kindOf};
-ghost use Rattle.names.specs.Table.{IsRow, IsEntry, Candidate};
+ghost use Rattle.names.specs.Private.Table.{IsRow, IsEntry, Candidate};
 
 // The bytes of a register's name, and of a mnemonic's: the name, then zeros.
 const REGISTER_SIZE: usize = 4;

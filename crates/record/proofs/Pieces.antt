@@ -14,7 +14,7 @@ use native.Mathlib.Numerals.{add-one}
 use Rattle.buffers.specs.Bytes.{le, num}
 use Rattle.buffers.proofs.Laws.{each-is, num-le}
 use Rattle.reading.proofs.Same.{Says}
-use Rattle.record.specs.Steps.{part}
+use Rattle.record.specs.Private.Steps.{part}
 
 -- ── p and then q, of n and m bytes ──
 

@@ -17,7 +17,7 @@ use Rattle.names.proofs.Same.{same-eq, same-self}
 use Rattle.names.proofs.Found.{HasKind, kind-or-none}
 use Rattle.record.specs.Record.{size, headBytes, effectBytes, operandBytes, insnBytes}
 use Rattle.record.specs.Unpacked.{insnIn, isRecord}
-use Rattle.record.specs.Steps.{part, Holds}
+use Rattle.record.specs.Private.Steps.{part, Holds}
 use Rattle.record.proofs.Pieces.{left-part, right-part, both-parts}
 
 -- bytes that are the same pass the test, and the other way round

@@ -1,4 +1,4 @@
 pub mod Record
 pub mod Unpacked
-pub mod Steps
 pub mod Theorems
+pub mod Private

@@ -12,7 +12,7 @@ ghost use Rattle.buffers.specs.Bytes.{over, overAt, le};
 ghost use Rattle.names.specs.Names.{nameBytes};
 ghost use Rattle.record.specs.Record.{size, bit, headBytes, effectBytes, slotOf, slotBytes, operandBytes, numberBytes, packNumber, packed};
 ghost use Rattle.record.specs.Unpacked.{byteAt, numberAt, opIn, effectIn, flowIn, targetIn, slotIn, slotsIn, insnIn, unpacked};
-ghost use Rattle.record.specs.Steps.{part, Holds};
+ghost use Rattle.record.specs.Private.Steps.{part, Holds};
 use reading::Decoded;
 use reading::Effect;
 use reading::Flow;

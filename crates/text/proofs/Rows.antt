@@ -9,7 +9,7 @@ use lib.ListN.{length, take, drop, length-append, take-append-drop}
 use lib.Seq.{take-at}
 use Rattle.buffers.specs.Bytes.{overAt, placed}
 use Rattle.buffers.proofs.Laws.{placed-in, row-at, overAt-length}
-use Rattle.text.specs.Writes.{Wrote}
+use Rattle.text.specs.Private.Writes.{Wrote}
 
 -- what a writer that takes any place says, where there was room
 pub wrote : {at m : ℕ} {l d d′ : List ℕ} {n : ℕ} → length l ≤ m → at + length l ≤ length d → n ≡ length l → d′ ≡ placed at l d

@@ -4,7 +4,7 @@ use mathlib.Core.List.{[], _∷_}
 use borrow.Author.Needs.{needs}
 use Rattle.word.specs.Word.{op, rs, rt}
 use Rattle.classes.specs.Meaning.{meaning, reading, outs, flowOf, targetIn, markOf, effectOf}
-use Rattle.decode.specs.Groups.{NoneOf}
+use Rattle.decode.specs.Private.Groups.{NoneOf}
 use Rattle.decode.proofs.Facts.{_≐_, _lowIs_, _lowNoneOf_}
 use Rattle.decode.proofs.Arms.{rowBy, accepts}
 use Rattle.decode.proofs.bc1.Statement.{statement}

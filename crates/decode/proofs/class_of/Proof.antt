@@ -1,7 +1,7 @@
 use Prim.Native.Nat.{ℕ}
 use mathlib.Core.Path.{sym, _∙_, subst}
 use borrow.Author.Needs.{needs}
-use Rattle.decode.specs.Groups.{NoneOf, grouped}
+use Rattle.decode.specs.Private.Groups.{NoneOf, grouped}
 use Rattle.decode.proofs.class_of.Statement.{statement}
 use Rattle.decode.proofs.class_of.Tie as tie
 

@@ -5,7 +5,7 @@ use native.Mathlib.Omega.{arith}
 use borrow.Author.Needs.{needs}
 use Rattle.word.specs.Word.{op, rs}
 use Rattle.classes.specs.Meaning.{meaning}
-use Rattle.decode.specs.Groups.{NoneOf, single, double, word, long}
+use Rattle.decode.specs.Private.Groups.{NoneOf, single, double, word, long}
 use Rattle.decode.proofs.Facts.{_≐_, _noneOf_}
 use Rattle.decode.proofs.Arms.{rowBy, numberBy, accepts, refuses}
 use Rattle.decode.proofs.decode_cop1.Statement.{statement}

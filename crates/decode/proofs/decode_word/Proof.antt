@@ -5,8 +5,8 @@ use borrow.Author.Needs.{needs}
 use Rattle.reading.specs.declared.Decoded.{Decoded}
 use Rattle.classes.specs.Decoded.{decodedOf}
 use Rattle.decode.specs.declared.class.Class.{Class}
-use Rattle.decode.specs.Class.{readBy}
-use Rattle.decode.specs.Groups.{Is}
+use Rattle.decode.specs.Private.Class.{readBy}
+use Rattle.decode.specs.Private.Groups.{Is}
 use Rattle.decode.proofs.decode_word.Statement.{statement}
 use Rattle.decode.proofs.decode_word.Tie as tie
 

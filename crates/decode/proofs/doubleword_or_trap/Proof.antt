@@ -10,8 +10,8 @@ use Rattle.classes.specs.Row.{plain, writes}
 use Rattle.classes.specs.Table.{rd-rs-rt}
 use Rattle.classes.specs.Decoded.{decodedOf}
 use Rattle.classes.specs.Meaning.{meaning}
-use Rattle.decode.specs.Answer.{columns}
-use Rattle.decode.specs.Groups.{NoneOf, arithmetics, moves, shifts}
+use Rattle.decode.specs.Private.Answer.{columns}
+use Rattle.decode.specs.Private.Groups.{NoneOf, arithmetics, moves, shifts}
 use Rattle.decode.proofs.Facts.{Fact, _≐_, _≠_, _noneOf_}
 use Rattle.decode.proofs.Arms.{rowBy, numberBy, accepts, refuses}
 use Rattle.decode.proofs.doubleword_or_trap.Statement.{statement}

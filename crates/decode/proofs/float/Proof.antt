@@ -4,7 +4,7 @@ use mathlib.Core.List.{List, [], _∷_}
 use borrow.Author.Needs.{needs}
 use Rattle.reading.specs.Kind as kind
 use Rattle.classes.specs.Table.{fd-fs-ft, fd-fs, fs-ft}
-use Rattle.decode.specs.Groups.{NoneOf}
+use Rattle.decode.specs.Private.Groups.{NoneOf}
 use Rattle.decode.proofs.Arms.{rowBy, numberBy}
 use Rattle.decode.proofs.Formats.{in-formats, in-no-format}
 use Rattle.decode.proofs.float.Statement.{statement}

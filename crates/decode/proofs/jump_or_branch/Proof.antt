@@ -4,7 +4,7 @@ use mathlib.Core.List.{[], _∷_}
 use borrow.Author.Needs.{needs}
 use Rattle.word.specs.Word.{op, rs, rt}
 use Rattle.classes.specs.Meaning.{meaning, reading, outs, flowOf, targetIn, markOf, effectOf}
-use Rattle.decode.specs.Groups.{NoneOf, branches}
+use Rattle.decode.specs.Private.Groups.{NoneOf, branches}
 use Rattle.decode.proofs.Facts.{_≐_, _≠_}
 use Rattle.decode.proofs.Arms.{rowBy, accepts}
 use Rattle.decode.proofs.jump_or_branch.Statement.{statement}

@@ -3,7 +3,7 @@ use mathlib.Core.Path.{refl, sym, _∙_, subst}
 use mathlib.Core.List.{List, [], _∷_}
 use Rattle.word.specs.Word.{op}
 use Rattle.classes.specs.Meaning.{meaning}
-use Rattle.decode.specs.Groups.{NoneOf, grouped, branches, immediates}
+use Rattle.decode.specs.Private.Groups.{NoneOf, grouped, branches, immediates}
 use Rattle.decode.proofs.Facts.{_≐_, _noneOf_}
 use Rattle.decode.proofs.Arms.{rowBy, numberBy, accepts, refuses}
 use Rattle.decode.proofs.load_or_store.Statement.{statement}

@@ -3,7 +3,7 @@ use mathlib.Core.Path.{refl, sym, _∙_, subst}
 use mathlib.Core.List.{[], _∷_}
 use Rattle.word.specs.Word.{op, fn}
 use Rattle.classes.specs.Meaning.{meaning, reading, outs, flowOf, targetIn, markOf, effectOf}
-use Rattle.decode.specs.Groups.{NoneOf, moves}
+use Rattle.decode.specs.Private.Groups.{NoneOf, moves}
 use Rattle.decode.proofs.Facts.{_≐_}
 use Rattle.decode.proofs.Arms.{rowBy, accepts}
 use Rattle.decode.proofs.move_or_multiply.Statement.{statement}

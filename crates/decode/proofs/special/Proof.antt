@@ -4,7 +4,7 @@ use mathlib.Core.List.{[], _∷_}
 use borrow.Author.Needs.{needs}
 use Rattle.word.specs.Word.{fieldsOf, op, rs, fn}
 use Rattle.classes.specs.Meaning.{meaning, reading, outs, flowOf, targetIn, markOf, effectOf}
-use Rattle.decode.specs.Groups.{NoneOf, shifts}
+use Rattle.decode.specs.Private.Groups.{NoneOf, shifts}
 use Rattle.decode.proofs.Facts.{_≐_, busy, _≠_}
 use Rattle.decode.proofs.Arms.{rowBy, accepts, whole, known-whole, known-busy}
 use Rattle.decode.proofs.special.Statement.{statement}

@@ -6,7 +6,7 @@ use Rattle.reading.specs.declared.Op.{Op}
 use Rattle.inverse.proofs.Fill.{filled}
 use Rattle.inverse.proofs.Smallest.{operandAt}
 use Rattle.encode.proofs.Candidates.{filled-small, four-slots}
-use Rattle.encode.specs.Stem.{planOf, four}
+use Rattle.encode.specs.Private.Stem.{planOf, four}
 use Rattle.encode.proofs.fill.Statement.{statement}
 use Rattle.encode.proofs.fill.Tie as tie
 

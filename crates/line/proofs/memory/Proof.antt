@@ -7,7 +7,7 @@ use Prim.Native.Nat.{_+_, _≤_}
 use native.Mathlib.Omega.{arith}
 use lib.ListN.{length}
 use Rattle.names.specs.Names.{letter, letters}
-use Rattle.text.specs.Writes.{Wrote}
+use Rattle.text.specs.Private.Writes.{Wrote}
 use Rattle.text.proofs.Rows.{wrote, after}
 use Rattle.line.specs.Line.{textOf, opText}
 use Rattle.line.proofs.Operands.{decimal-wrote}

@@ -5,7 +5,7 @@ use mathlib.Core.Path.{refl}
 use Prim.Native.Nat.{_+_, _≤_}
 use native.Mathlib.Omega.{arith}
 use lib.ListN.{length}
-use Rattle.text.specs.Writes.{Wrote}
+use Rattle.text.specs.Private.Writes.{Wrote}
 use Rattle.text.proofs.Lengths.{numeral-most}
 use Rattle.text.proofs.Rows.{wrote, after, bound, kept}
 use Rattle.line.proofs.numbered.Statement.{statement}

@@ -8,7 +8,7 @@ use borrow.Author.Tests.{lt-ltb, le-ltb}
 use Rattle.reading.specs.declared.Insn.{Insn}
 use Rattle.classes.specs.Decoded.{acceptedAs}
 use Rattle.record.specs.Unpacked.{insnIn}
-use Rattle.record.specs.Steps.{Holds}
+use Rattle.record.specs.Private.Steps.{Holds}
 use Rattle.record.proofs.Whole.{holds-record, not-record}
 use Rattle.record.proofs.unpack.Statement.{statement}
 use Rattle.record.proofs.unpack.Tie as tie

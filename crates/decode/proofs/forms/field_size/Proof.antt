@@ -7,7 +7,7 @@ use mir.Facts.{toZ-ofZ}
 use borrow.Author.Needs.{needs}
 use Rattle.word.specs.Word.{rd}
 use Rattle.word.proofs.Fields.{fields-fit}
-use Rattle.decode.specs.Answer.{fieldSize}
+use Rattle.decode.specs.Private.Answer.{fieldSize}
 use Rattle.decode.proofs.forms.field_size.Statement.{statement}
 use Rattle.decode.proofs.forms.field_size.Tie as tie
 

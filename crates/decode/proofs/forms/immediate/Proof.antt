@@ -2,7 +2,7 @@ use mathlib.Core.Path.{sym, ap, _∙_}
 use mathlib.Core.Bool.{Bool}
 use mir.Facts.{toZ-ofZ}
 use borrow.Author.Needs.{needs}
-use Rattle.decode.specs.Answer.{immediateOf}
+use Rattle.decode.specs.Private.Answer.{immediateOf}
 use Rattle.decode.proofs.forms.immediate.Statement.{statement}
 use Rattle.decode.proofs.forms.immediate.Tie as tie
 

@@ -1,6 +1,6 @@
 use mathlib.Core.Path.{sym, ap}
 use mathlib.Core.Bool.{Bool}
-use Rattle.decode.specs.Answer.{writtenIf}
+use Rattle.decode.specs.Private.Answer.{writtenIf}
 use Rattle.decode.proofs.forms.written.Statement.{statement}
 use Rattle.decode.proofs.forms.written.Tie as tie
 

@@ -1,4 +1,4 @@
--- What the private functions of unpacking answer. No public contract cites this file.
+-- What the private functions of unpacking answer.
 -- Assumes nothing.
 use Prim.Native.Nat.{ℕ}
 use mathlib.Core.Path.{_≡_}

@@ -1,4 +1,4 @@
--- What a class of the decoder reads: the columns of its rows in the table. No public contract cites this file.
+-- What a class of the decoder reads: the columns of its rows in the table.
 -- Assumes nothing.
 use Prim.Native.Nat.{ℕ}
 use mathlib.Core.List.{[]}
@@ -12,7 +12,7 @@ use Rattle.classes.specs.Table.{one-rs, one-rd, rd-rs, rd-rt, rs-rt, rd-rs-rt, 
 use Rattle.classes.specs.Table.{rt-uimm, rt-base, ft-base, hint-base, rt-cop0, rt-fs, fd-fs-ft, fd-fs, fs-ft, rt-hwr}
 use Rattle.decode.specs.declared.class.Class.{Class}
 use Rattle.decode.specs.declared.class.Class.the-variants as class
-use Rattle.decode.specs.Answer.{straight, columns, turns, twoBy, threeBy, writesIf, fieldBy}
+use Rattle.decode.specs.Private.Answer.{straight, columns, turns, twoBy, threeBy, writesIf, fieldBy}
 
 abbrev pub readBy : Class → ℕ → ℕ → Decoded
 readBy (class.Refused n) = λ w va. refusedOf n

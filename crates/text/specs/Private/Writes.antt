@@ -1,4 +1,4 @@
--- What one of a row of writers leaves: crates `line` and `listing` write a line piece by piece. No public contract cites this file.
+-- What one of a row of writers leaves: crates `line` and `listing` write a line piece by piece.
 -- Assumes nothing.
 use Prim.Native.Nat.{ℕ, _+_, _≤_}
 use mathlib.Core.Path.{_≡_}

@@ -1,4 +1,4 @@
--- What the encoder's private functions answer. No public contract cites this file.
+-- What the encoder's private functions answer.
 -- Assumes nothing.
 use Prim.Native.Nat.{ℕ, zero, suc, _+_, _*_, _^_, _≤_}
 use mathlib.Core.Path.{_≡_}

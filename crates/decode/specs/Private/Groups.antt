@@ -1,4 +1,4 @@
--- What the decoder's private functions are handed, and what they answer. No public contract cites this file.
+-- What the decoder's private functions are handed, and what they answer.
 -- Assumes nothing.
 use Prim.Native.Nat.{ℕ}
 use mathlib.Core.Path.{_≡_}
@@ -7,7 +7,7 @@ use mathlib.Core.List.{List, [], _∷_}
 use Rattle.word.specs.Word.{Field, fieldsOf, op, rs, fn}
 use Rattle.classes.specs.Decoded.{decodedOf}
 use Rattle.decode.specs.declared.class.Class.{Class}
-use Rattle.decode.specs.Class.{readBy}
+use Rattle.decode.specs.Private.Class.{readBy}
 
 -- ── answers ──
 
