@@ -1,7 +1,7 @@
 -- The acceptance table and the table of classes agree: the walk of Cover, computed, and what follows from it.
 -- Assumes nothing.
 use Prim.Native.Nat.{ℕ, _+_, _≤_}
-use mathlib.Core.Path.{_≡_, refl, ap}
+use mathlib.Core.Path.{_≡_, refl, sym, ap}
 use mathlib.Core.Bool.{Bool, true, false, cond, _&&_}
 use mathlib.Core.List.{List, [], _∷_}
 use mathlib.Core.Option.{Option, none, some, Option·none-ne-some}
@@ -9,6 +9,8 @@ use native.Mathlib.Omega.{arith}
 use lib.Dec.{T, ltb, ltb→lt}
 use Rattle.word.specs.Word.{Fields, Fit, fieldsOf}
 use Rattle.word.proofs.Fields.{fields-fit}
+use Rattle.reading.specs.declared.Insn.{Insn}
+use Rattle.reading.specs.declared.Decoded.{Decoded}
 use Rattle.reading.specs.Kind.{from}
 use Rattle.reading.specs.Reading.{refusedOf}
 use Rattle.classes.specs.Row.{Row}
@@ -18,6 +20,7 @@ use Rattle.classes.specs.Refusals.{elem, Refusal, meets, refusal, refusa
 use Rattle.classes.specs.Decoded.{readingBy, acceptedAs, decodedBy, decodedOf}
 use Rattle.classes.specs.Theorems.{taking, Acceptance}
 use Rattle.classes.proofs.Tests.{and-l, and-r}
+use Rattle.classes.proofs.Find.{found-taking}
 use Rattle.classes.proofs.Walk.{spread, walk, sift, freeIn, markIn}
 use Rattle.classes.proofs.Cover.{ones}
 use Rattle.classes.proofs.Boxes.{bit, guardOf, boxesBy, boxes, testBox, testsBox, refusedBoxes, refusing, exact, taken-or-refused}
@@ -34,14 +37,14 @@ none-taking (r ∷ ts) f e = go (takes r f) e (none-taking ts f)
     go true d rec = absurd (omega arith)
     go false d rec = rec (omega arith)
 
--- one is found: some row takes it
-pub found-taking : (ts : List Row) (f : Fields) (r : Row) → find ts f ≡ some r → 1 ≤ taking ts f
-unfolding taking find
-found-taking [] f r e = absurd (Option·none-ne-some r e)
-found-taking (s ∷ ts) f r e = go (takes s f) e (found-taking ts f r)
+-- none is found: no row takes it
+pub none-found : (ts : List Row) (f : Fields) → find ts f ≡ none → taking ts f ≡ 0
+unfolding find taking
+none-found [] f e = refl
+none-found (r ∷ ts) f e = go (takes r f) e (none-found ts f)
   where
-    go : (b : Bool) → cond b (some s) (find ts f) ≡ some r → (find ts f ≡ some r → 1 ≤ taking ts f) → 1 ≤ bit b + taking ts f
-    go true d rec = omega arith
+    go : (b : Bool) → cond b (some r) (find ts f) ≡ none → (find ts f ≡ none → taking ts f ≡ 0) → bit b + taking ts f ≡ 0
+    go true d rec = absurd (Option·none-ne-some r (sym d))
     go false d rec = omega (arith, rec d)
 
 -- every entry has a number
@@ -96,6 +99,13 @@ module _ (ts : List Row) (es : List Refusal) (t : T (exact ts es)) (f : Fields) 
     where
       number : refusal es f ≡ 0
       number = none-refusing es f (omega (arith, taken-or-refused ts es t f h, found-taking ts f r e))
+
+-- an accepted answer is its reading
+pub accepted-as : (d : Decoded) (i : Insn) → d .number ≡ 0 → d .insn ≡ i → d ≡ acceptedAs i
+accepted-as d i e h = λ t. record { number = e t; insn = h t }
+
+pub accepted-insn : (d : Decoded) → d .number ≡ 0 → d ≡ acceptedAs (d .insn)
+accepted-insn d e = accepted-as d (d .insn) e refl
 
 -- ── the two tables of the definition ──
 

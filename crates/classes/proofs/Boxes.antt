@@ -2,7 +2,7 @@
 -- Assumes nothing.
 use Prim.Native.Nat.{ℕ, _+_}
 use mathlib.Core.Path.{_≡_, refl, sym, _∙_, ap, ap₂}
-use mathlib.Core.Bool.{Bool, true, false, not, cond, _&&_}
+use mathlib.Core.Bool.{Bool, true, false, not, cond, _&&_, and-true}
 use mathlib.Core.List.{List, [], _∷_, _++_}
 use mathlib.Core.Option.{none, some}
 use lib.Dec.{T, eqb, leb}
@@ -11,7 +11,6 @@ use Rattle.classes.specs.Row.{Pat, is, read, readBut, skip, skipBut, low
 use Rattle.classes.specs.Meaning.{match, six, nopLike, takes}
 use Rattle.classes.specs.Refusals.{Test, _∈_, _∉_, elem, holds, Refusal, meets}
 use Rattle.classes.specs.Theorems.{taking}
-use Rattle.classes.proofs.Tests.{and-true}
 use Rattle.classes.proofs.Walk.{Guard, passes}
 use Rattle.classes.proofs.Cover.{Box, within, ones, count, walked-ones, count-append, count-none, count-box, meet, within-meet, six-same}
 

@@ -2,14 +2,14 @@
 -- Assumes nothing.
 use Prim.Native.Nat.{ℕ, _+_}
 use mathlib.Core.Path.{_≡_, refl, sym, _∙_, ap, subst, fun-ext}
-use mathlib.Core.Bool.{Bool, true, false, cond, _&&_}
+use mathlib.Core.Bool.{Bool, true, false, cond, _&&_, and-true, and-comm, and-assoc}
 use mathlib.Core.List.{List, [], _∷_, _++_}
 use mathlib.Core.Option.{none, some}
 use lib.Dec.{T, eqb, eqb→eq}
 use lib.ListN.{length, length-append}
 use Rattle.word.specs.Word.{Field, op, rs, rt, rd, sa, fn, Fields, Fit, room}
 use Rattle.classes.specs.Meaning.{six}
-use Rattle.classes.proofs.Tests.{and-true, six-and}
+use Rattle.classes.proofs.Tests.{six-and}
 use Rattle.classes.proofs.Walk.{Guard, passes, walk, left, walked, sift, sift-append, keepIn, freeIn, markIn, keep-free, mark-keep, passing, left-sift}
 
 abbrev pub Box : Type 0
@@ -46,18 +46,10 @@ order = op ∷ fn ∷ rs ∷ rt ∷ rd ∷ sa ∷ []
 
 -- funct second or last
 later : (a g b : Bool) → a && (g && b) ≡ a && (b && g)
-later false g b = refl
-later true true true = refl
-later true true false = refl
-later true false true = refl
-later true false false = refl
+later a g b = rw (and-comm g b)
 
 regroup : (a b c d e g : Bool) → a && ((b && (c && (d && e))) && g) ≡ a && (b && (c && (d && (e && g))))
-regroup false b c d e g = refl
-regroup true false c d e g = refl
-regroup true true false d e g = refl
-regroup true true true false e g = refl
-regroup true true true true e g = refl
+regroup a b c d e g = simp and-assoc
 
 pub in-order : (p : Field → Bool) → (p op && (p fn && (p rs && (p rt && (p rd && (p sa && true)))))) ≡ six p
 unfolding six

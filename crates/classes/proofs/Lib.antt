@@ -4,6 +4,7 @@ pub mod Cover
 pub mod Boxes
 pub mod Accepts
 pub mod Find
+pub mod Operands
 pub mod Uses
 pub mod Marks
 pub mod Width

@@ -3,21 +3,19 @@
 use Prim.Native.Nat.{ℕ}
 use mathlib.Core.Path.{_≡_, refl, _∙_}
 use mathlib.Core.Bool.{Bool, true, false, not, cond, _&&_, _||_, Bool·beq}
-use mathlib.Core.List.{List, [], _∷_}
-use mathlib.Core.Option.{Option, none, some}
+use mathlib.Core.List.{List}
 use lib.Dec.{T, eqb}
-use Rattle.word.specs.Word.{Fields, fieldsOf, rs, rd}
+use Rattle.word.specs.Word.{Fields, fieldsOf, rd}
 use Rattle.reading.specs.declared.Op.{Op}
-use Rattle.reading.specs.declared.Op.the-variants.{Reg}
 use Rattle.reading.specs.declared.Flow.the-variants as flow
 use Rattle.reading.specs.Kind as kind
 use Rattle.classes.specs.Row.{Code, reg, freg, cop0, num, size, s16, u16, mem, br, jmp, Form, end, _▸_, posSize, link, Control, plain, call, jump, branch, return, interrupt, byRegister, Row}
-use Rattle.classes.specs.Meaning.{first, regOf, find, out, outs, flowOf, markOf, targetIn, reading, meaning}
+use Rattle.classes.specs.Meaning.{first, regOf, out, outs, flowOf, markOf, targetIn, reading, meaning}
 use Rattle.classes.specs.Table.{common, byWidth, table}
-use Rattle.classes.specs.Decoded.{readingBy, decodedBy, decodedOf}
+use Rattle.classes.specs.Decoded.{decodedOf}
 use Rattle.classes.specs.Theorems.{turns, present, Marked}
-use Rattle.classes.proofs.Tests.{and-l, and-r, beq-same}
-use Rattle.classes.proofs.Find.{every, every-found}
+use Rattle.classes.proofs.Tests.{and-l, and-r, either, beq-same}
+use Rattle.classes.proofs.Find.{every, each-reading}
 
 -- ── the mark ──
 
@@ -79,11 +77,7 @@ presents (mem ▸ φ) va f = presents φ va f
 presents (br ▸ φ) va f = refl
 presents (jmp ▸ φ) va f = refl
 presents posSize va f = refl
-presents link va f = go (eqb (f rd) 31)
-  where
-    go : (b : Bool) → present (targetIn (cond b (Reg (f rs) ∷ []) (Reg (f rd) ∷ Reg (f rs) ∷ []))) ≡ false
-    go true = refl
-    go false = refl
+presents link va f = either (λ os. present (targetIn os) ≡ false) (eqb (f rd) 31) refl refl
 
 -- ── the test ──
 
@@ -100,19 +94,11 @@ marked-row r va f t =
       target = presents (r .form) va f ∙ beq-same _ _ (and-r (Bool·beq (markOf (r .control)) (turning (r .control) || eqb (r .kind) kind.jr)) _ t);
     }
 
--- any table whose rows pass it
-pub marked-by : (ts : List Row) → T (every ruled ts) → (va : ℕ) (f : Fields) → Marked (readingBy (find ts f) va f)
-marked-by ts t va f = go (find ts f) refl
-  where
-    go : (o : Option Row) → find ts f ≡ o → Marked (readingBy o va f)
-    go none e = record { mark = refl; target = refl }
-    go (some r) e = marked-row r va f (every-found ruled ts t f r e)
-
 ruled-table : (wide : Bool) → T (every ruled (table wide))
 unfolding every ruled markOf turning targeted places table common byWidth
 ruled-table true = tt
 ruled-table false = tt
 
 pub marked : (w va : ℕ) (wide : Bool) → Marked ((decodedOf w va wide) .insn)
-unfolding decodedOf decodedBy
-marked w va wide = marked-by (table wide) (ruled-table wide) va (fieldsOf w)
+marked w va wide =
+    each-reading Marked ruled (record { mark = refl; target = refl }) w va wide (ruled-table wide) (λ r. marked-row r va (fieldsOf w))

@@ -1,8 +1,9 @@
--- Laws of tests: their connectives, sameness, a test at each field, a test computed at every number below a bound.
+-- Laws of tests: their connectives, sameness, a test at each field, a test computed at every number below a bound, what no arm has.
 -- Assumes nothing.
-use Prim.Native.Nat.{ℕ, zero, suc, _<_}
+use Prim.Native.Nat.{ℕ, zero, suc, _+_, _<_, _≤_}
 use mathlib.Core.Path.{_≡_, refl, sym, _∙_, ap, subst}
-use mathlib.Core.Bool.{Bool, true, false, not, _&&_, _||_, Bool·beq}
+use mathlib.Core.Bool.{Bool, true, false, not, cond, _&&_, _||_, Bool·beq}
+use mathlib.Core.List.{List, [], _∷_}
 use mathlib.Core.Logic.{_⊎_, inl, inr}
 use native.Mathlib.Omega.{arith}
 use lib.Dec.{T, eqb}
@@ -10,6 +11,7 @@ use borrow.Author.Tests.{eqb-true, eqb-false}
 use Rattle.word.specs.Word.{Field, Field-discrete, sameField, op, rs, rt, rd, sa, fn}
 use Rattle.classes.specs.Row.{Code-discrete, Form, Form-discrete}
 use Rattle.classes.specs.Meaning.{six}
+use Rattle.classes.specs.Refusals.{elem}
 
 pub and-l : (a b : Bool) → T (a && b) → T a
 and-l true b t = tt
@@ -35,14 +37,6 @@ pub or-e : (a b : Bool) → T (a || b) → T a ⊎ T b
 or-e true b t = inl tt
 or-e false b t = inr t
 
-pub not-e : (b : Bool) → T (not b) → ¬ T b
-not-e true s t = s
-not-e false s t = t
-
-pub not-i : (b : Bool) → ¬ T b → T (not b)
-not-i true n = n tt
-not-i false n = tt
-
 pub implies : (a b : Bool) → (T a → T b) → T (not a || b)
 implies true b h = h tt
 implies false b h = tt
@@ -51,7 +45,19 @@ pub implied : (a b : Bool) → T (not a || b) → T a → T b
 implied true b t s = t
 implied false b t s = absurd s
 
+-- either way of a choice
+pub chosen : {A : Type 0} (b : Bool) (P : A → Type 0) (x y : A) → (T b → P x) → (¬ T b → P y) → P (cond b x y)
+chosen true P x y p q = p tt
+chosen false P x y p q = q (λ t. t)
+
+pub either : {A : Type 0} (P : A → Type 0) (b : Bool) {x y : A} → P x → P y → P (cond b x y)
+either P b {x} {y} p q = chosen b P x y (λ t. p) (λ n. q)
+
 -- a test whose value is known
+pub true-of : (b : Bool) → T b → b ≡ true
+true-of true t = refl
+true-of false t = absurd t
+
 pub at-true : {b : Bool} → b ≡ true → T b
 at-true e = subst T (sym e) tt
 
@@ -76,10 +82,6 @@ zip false b c d = refl
 zip true false false d = refl
 zip true false true d = refl
 zip true true c d = refl
-
-pub and-true : (a : Bool) → (a && true) ≡ a
-and-true true = refl
-and-true false = refl
 
 -- both tests at each field
 pub six-and : (p q : Field → Bool) → six (λ x. p x && q x) ≡ (six p && six q)
@@ -135,3 +137,18 @@ below p (suc n) t k h = go (eqb k n) refl (below p n (and-r (p n) (allBelow p n)
     go : (b : Bool) → eqb k n ≡ b → (k < n → T (p k)) → T (p k)
     go true e rec = subst (λ (m : ℕ). T (p m)) (sym (eqb-true k n e)) (and-l (p n) (allBelow p n) t)
     go false e rec = let d : ¬ (k ≡ n) = eqb-false k n e in rec (omega arith)
+
+-- no number twice
+unfoldable pub distinct : List ℕ → Bool
+distinct [] = true
+distinct (k ∷ l) = not (elem k l) && distinct l
+
+-- none of n numbers from a on, the last first, as the arm `_` of a `match` knows it
+abbrev pub NoneFrom : ℕ → ℕ → ℕ → Type 0
+NoneFrom m a zero = Unit {0}
+NoneFrom m a (suc n) = NoneFrom m a n × (m ≡ a + n → ⊥)
+
+-- what no arm has stands past them
+pub past : (m a n : ℕ) → a ≤ m → NoneFrom m a n → a + n ≤ m
+past m a zero h p = omega arith
+past m a (suc n) h p = let q : a + n ≤ m = past m a n h (p .0) in let d : ¬ (m ≡ a + n) = p .1 in omega arith

@@ -1,18 +1,18 @@
 -- A row that takes every word of which these facts are known: found by trying the values that the fields can still have.
 -- Assumes nothing.
-use Prim.Native.Nat.{_+_, _≤_, _%_}
-use mathlib.Core.Path.{_≡_, refl, ap, subst}
-use mathlib.Core.Bool.{Bool, true, false, not, cond, _&&_, _||_}
+use Prim.Native.Nat.{_≤_, _%_}
+use mathlib.Core.Path.{_≡_, refl, sym, ap, subst}
+use mathlib.Core.Bool.{Bool, true, false, not, _&&_, _||_}
 use mathlib.Core.List.{List, [], _∷_}
-use mathlib.Core.Option.{Option, none, some, Option·none-ne-some}
-use native.Mathlib.Omega.{arith}
+use mathlib.Core.Logic.{_⊎_, inl, inr}
+use mathlib.Core.Option.{Option, none, some, Option·none-ne-some, Option·some-injective}
 use lib.Dec.{T, eqb}
-use Rattle.word.specs.Word.{Field, op, rs, rt, rd, sa, fn, Fields, Fit}
+use Rattle.word.specs.Word.{Field, Fields, Fit}
 use Rattle.classes.specs.Row.{Pat, is, read, readBut, skip, skipBut, low, Row, patOf}
 use Rattle.classes.specs.Meaning.{match, six, nopLike, takes, find}
 use Rattle.classes.specs.Theorems.{taking}
-use Rattle.classes.proofs.Tests.{and-l, and-r, six-at, and-i, at-true}
-use Rattle.classes.proofs.Boxes.{bit}
+use Rattle.classes.proofs.Tests.{and-l, and-r, six-at, six-make, and-i, at-true}
+use Rattle.classes.proofs.Find.{In, only-row}
 use Rattle.decode.proofs.Facts.{Fact, _≐_, _≠_, _noneOf_, _lowIs_, _lowNoneOf_, busy, Known, sure, sure-holds}
 
 -- ── the row that takes the word ──
@@ -56,15 +56,6 @@ busy-is (busy ∷ ks) f h t = h .0
 unfoldable pub certain : List Fact → Row → Bool
 certain ks r = six (λ x. surely ks x (patOf r x)) && (not (r .nops) || isBusy ks)
 
-six-i : (p q : Field → Bool) → ((x : Field) → T (p x) → T (q x)) → T (six p) → T (six q)
-unfolding six
-six-i p q h t =
-    and-i (q op) _ (h op (six-at p t op))
-    (and-i (q rs) _ (h rs (six-at p t rs))
-    (and-i (q rt) _ (h rt (six-at p t rt))
-    (and-i (q rd) _ (h rd (six-at p t rd))
-    (and-i (q sa) (q fn) (h sa (six-at p t sa)) (h fn (six-at p t fn))))))
-
 not-nop : (b n : Bool) (k : Bool) → T (not b || k) → (T k → n ≡ false) → T (not (b && n))
 not-nop true n k t h = at-true (ap not (h t))
 not-nop false n k t h = tt
@@ -73,8 +64,8 @@ certain-takes : (ks : List Fact) (f : Fields) → Known f ks → Fit f → (r : 
 unfolding certain takes
 certain-takes ks f h i r t =
     and-i (six (λ x. match (patOf r x) (f x))) (not (r .nops && nopLike f))
-    (six-i (λ x. surely ks x (patOf r x)) (λ x. match (patOf r x) (f x)) (λ x. surely-match ks f h i x (patOf r x))
-    (and-l (six (λ x. surely ks x (patOf r x))) (not (r .nops) || isBusy ks) t))
+    (six-make (λ x. match (patOf r x) (f x))
+    (λ x. surely-match ks f h i x (patOf r x) (six-at (λ x. surely ks x (patOf r x)) (and-l (six (λ x. surely ks x (patOf r x))) _ t) x)))
     (not-nop (r .nops) (nopLike f) (isBusy ks) (and-r (six (λ x. surely ks x (patOf r x))) (not (r .nops) || isBusy ks) t) (busy-is ks f h))
 
 -- the first such row
@@ -82,32 +73,20 @@ unfoldable pub chosen : List Fact → List Row → Option Row
 chosen ks [] = none
 chosen ks (r ∷ ts) = elim (certain ks r) [ true ↦ some r | false ↦ chosen ks ts ]
 
--- it takes the word, so some row does
-chosen-taking : (ks : List Fact) (f : Fields) → Known f ks → Fit f → (ts : List Row) (r : Row) → chosen ks ts ≡ some r → 1 ≤ taking ts f
-unfolding chosen taking
-chosen-taking ks f h i [] r e = absurd (Option·none-ne-some r e)
-chosen-taking ks f h i (s ∷ ts) r e = go (certain ks s) refl e (chosen-taking ks f h i ts r)
+-- it is in the table and takes the word
+chosen-in : (ks : List Fact) (f : Fields) → Known f ks → Fit f → (ts : List Row) (r : Row) → chosen ks ts ≡ some r → In r ts × T (takes r f)
+unfolding chosen In
+chosen-in ks f h i [] r e = absurd (Option·none-ne-some r e)
+chosen-in ks f h i (s ∷ ts) r e = go (certain ks s) refl e (chosen-in ks f h i ts r)
   where
-    taken : (b : Bool) → T b → 1 ≤ bit b + taking ts f
-    taken true t = omega arith
-    taken false t = absurd t
-
-    go : (b : Bool) → certain ks s ≡ b → elim b [ true ↦ some s | false ↦ chosen ks ts ] ≡ some r → (chosen ks ts ≡ some r → 1 ≤ taking ts f) →
-        1 ≤ bit (takes s f) + taking ts f
-    go true c d rec = taken (takes s f) (certain-takes ks f h i s (at-true c))
-    go false c d rec = omega (arith, rec d)
+    go : (b : Bool) → certain ks s ≡ b → elim b [ true ↦ some s | false ↦ chosen ks ts ] ≡ some r → (chosen ks ts ≡ some r → In r ts × T (takes r f)) →
+        ((r ≡ s) ⊎ In r ts) × T (takes r f)
+    go true c d rec =
+        let is : s ≡ r = Option·some-injective s r d in
+        (inl (sym is), subst (λ (x : Row). T (takes x f)) is (certain-takes ks f h i s (at-true c)))
+    go false c d rec = let p : In r ts × T (takes r f) = rec d in (inr (p .0), p .1)
 
 -- if no two rows take the word, it is the one that is found
 pub chosen-found : (ks : List Fact) (f : Fields) → Known f ks → Fit f → (ts : List Row) → taking ts f ≤ 1 → (r : Row) → chosen ks ts ≡ some r →
     find ts f ≡ some r
-unfolding chosen taking find
-chosen-found ks f h i [] u r e = absurd (Option·none-ne-some r e)
-chosen-found ks f h i (s ∷ ts) u r e = go (certain ks s) refl (takes s f) refl u e (chosen-found ks f h i ts)
-  where
-    go : (b : Bool) → certain ks s ≡ b → (t : Bool) → takes s f ≡ t → bit t + taking ts f ≤ 1 →
-        elim b [ true ↦ some s | false ↦ chosen ks ts ] ≡ some r →
-        (taking ts f ≤ 1 → (r : Row) → chosen ks ts ≡ some r → find ts f ≡ some r) → cond t (some s) (find ts f) ≡ some r
-    go true c true d v e rec = e
-    go true c false d v e rec = absurd (subst T d (certain-takes ks f h i s (at-true c)))
-    go false c true d v e rec = absurd (omega (arith, chosen-taking ks f h i ts r e))
-    go false c false d v e rec = rec (omega arith) r e
+chosen-found ks f h i ts u r e = let p : In r ts × T (takes r f) = chosen-in ks f h i ts r e in only-row ts f u r (p .0) (p .1)

@@ -1,22 +1,21 @@
 -- One law for every arm that names the class of a mnemonic: a test of the mnemonic's first row, computed.
 -- Assumes nothing.
-use Prim.Native.Nat.{ℕ, zero, suc, _+_, _*_, _^_, _≤_, _<_}
+use Prim.Native.Nat.{ℕ, suc, _+_, _*_, _^_, _≤_, _<_}
 use mathlib.Core.Path.{_≡_, refl, sym, _∙_, ap, subst}
-use mathlib.Core.Bool.{Bool, true, false, cond, _&&_}
-use mathlib.Core.List.{List, [], _∷_}
-use mathlib.Core.Option.{Option, none, some, Option·none-ne-some}
+use mathlib.Core.Bool.{Bool, true, false, _&&_}
+use mathlib.Core.Option.{Option, none, some}
 use native.Mathlib.Omega.{arith}
-use borrow.Author.Tests.{eqb-true, eqb-false}
 use lib.Dec.{T, eqb, leb, eqb→eq, leb→le}
+use lib.IntN.{pos}
 use Rattle.word.specs.Word.{word}
 use Rattle.reading.specs.declared.Op.{Op}
 use Rattle.classes.specs.Row.{Code, reg, freg, cop0, num, size, s16, u16, mem, br, jmp, Form, end, _▸_, posSize, link, Row}
-use Rattle.classes.specs.Table.{common, byWidth, table}
-use Rattle.classes.proofs.Tests.{and-l, and-r, sameForm, same-form}
-use Rattle.classes.proofs.Find.{every}
+use Rattle.classes.specs.Table.{table}
+use Rattle.classes.proofs.Tests.{and-l, and-r, sameForm, same-form, NoneFrom, past}
+use Rattle.classes.proofs.Operands.{known, known-table, known-kind}
 use Rattle.inverse.proofs.Fill.{part, one-less, filled}
 use Rattle.inverse.proofs.Good.{least, base}
-use Rattle.inverse.proofs.Tables.{first}
+use Rattle.inverse.proofs.Tables.{first, pick-first, pick-every}
 use Rattle.encode.specs.declared.stem.Stem.{Stem}
 use Rattle.encode.specs.Private.Stem.{planOf, Serves, Roomy, Is}
 
@@ -101,38 +100,15 @@ arm {s} {k} e t = subst (Is s) (sym e) (suited-is s k t)
 
 -- ── what no arm has ──
 
--- the last arm first, as the arm `_` knows them
-abbrev pub NoneFrom : ℕ → ℕ → ℕ → Type 0
-NoneFrom m a zero = Unit {0}
-NoneFrom m a (suc n) = NoneFrom m a n × (m ≡ a + n → ⊥)
-
 -- n arms from a on leave nothing
 pub outside : (m a n : ℕ) → a ≤ m → m < a + n → NoneFrom m a n → ⊥
-outside m a zero l h p = omega arith
-outside m a (suc n) l h p = go (eqb m (a + n)) refl (outside m a n l)
-  where
-    go : (b : Bool) → eqb m (a + n) ≡ b → (m < a + n → NoneFrom m a n → ⊥) → ⊥
-    go true e rec = p .1 (eqb-true m (a + n) e)
-    go false e rec = let d : ¬ (m ≡ a + n) = eqb-false m (a + n) e in rec (omega arith) (p .0)
+outside m a n l h p = omega (arith, past m a n l p)
 
 -- no row has a mnemonic past the last
-small-table : (wide : Bool) → T (every (λ r. leb (r .kind) 211) (table wide))
-unfolding every table common byWidth
-small-table true = tt
-small-table false = tt
-
-none-past : (ts : List Row) (k : ℕ) → T (every (λ r. leb (r .kind) 211) ts) → 211 < k → first ts k ≡ none
-unfolding every first
-none-past [] k t l = refl
-none-past (s ∷ ts) k t l = go (eqb (s .kind) k) refl (none-past ts k (and-r (leb (s .kind) 211) _ t) l)
-  where
-    h : s .kind ≤ 211
-    h = leb→le (s .kind) 211 (and-l (leb (s .kind) 211) (every (λ r. leb (r .kind) 211) ts) t)
-
-    go : (b : Bool) → eqb (s .kind) k ≡ b → first ts k ≡ none → cond b (some s) (first ts k) ≡ none
-    go true e rec = let d : s .kind ≡ k = eqb-true (s .kind) k e in absurd (omega (arith, h))
-    go false e rec = rec
-
 pub past-all : (s : Stem) (m : ℕ) → Roomy s → 211 < m → Is s m
-past-all s m l h =
-    record { roomy = l; serves = λ wide k e. absurd (Option·none-ne-some k (sym (none-past (table wide) m (small-table wide) h) ∙ e)) }
+past-all s m l h = record { roomy = l; serves = λ wide k e. absurd (none wide k e) }
+  where
+    none : (wide : Bool) (k : Row) → first (table wide) m ≡ some k → ⊥
+    none wide k e =
+        let p = pick-every known (table wide) (known-table wide) m (pos 0) k (pick-first (table wide) m (pos 0) (λ d. omega (arith, d)) ∙ e) in
+        omega (arith, p .0, known-kind k (p .1))

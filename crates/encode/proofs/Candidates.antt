@@ -1,9 +1,9 @@
 -- Which class a reading's candidate is made in: the mnemonic's first, but for `li` by its value; and words 0 and 0x40.
 -- Assumes nothing.
-use Prim.Native.Nat.{ℕ, zero, suc, _+_, _≤_, _<_}
+use Prim.Native.Nat.{ℕ, zero, suc, _+_, _<_}
 use mathlib.Core.Path.{_≡_, refl, sym, _∙_, ap, subst, fun-ext}
 use mathlib.Core.Bool.{Bool, true, false, cond, _&&_, Bool·beq}
-use mathlib.Core.List.{List, [], _∷_}
+use mathlib.Core.List.{List}
 use mathlib.Core.Option.{none, some, Option·none-ne-some, Option·some-injective}
 use native.Mathlib.Decide.{ℕ-discrete}
 use native.Mathlib.Omega.{arith}
@@ -11,12 +11,12 @@ use borrow.Author.Tests.{lt-ltb, le-ltb, ltb-true, ltb-false}
 use lib.Dec.{T, eqb}
 use lib.IntN.{ℤ, pos, negsuc}
 use lib.Signed.{ltZ}
-use lib.ListN.{length}
+use lib.ListN.{length, List·getD-eq-default}
 use Rattle.word.specs.Word.{rs, rd, word}
 use Rattle.reading.specs.declared.Op.{Op}
-use Rattle.reading.specs.declared.Op.the-variants.{Reg}
 use Rattle.reading.specs.declared.Operand.{Operand}
 use Rattle.reading.specs.Kind as kind
+use Rattle.reading.specs.Reading.{unused}
 use Rattle.classes.specs.Row.{is, read, plain, sets, Row}
 use Rattle.classes.specs.Table.{rt-imm, rt-uimm, row, common, byWidth, table}
 use Rattle.classes.proofs.Tests.{at-true, beq-same}
@@ -165,9 +165,4 @@ four-slots xs h = fun-ext (go xs h)
     go ys l (suc zero) = refl
     go ys l (suc (suc zero)) = refl
     go ys l (suc (suc (suc zero))) = refl
-    go ys l (suc (suc (suc (suc n)))) = past ys (suc (suc (suc (suc n)))) (omega arith)
-      where
-        past : (zs : List Operand) (k : ℕ) → length zs ≤ k → Reg 0 ≡ operandAt zs k
-        past [] k m = refl
-        past (z ∷ zs) zero m = absurd (omega arith)
-        past (z ∷ zs) (suc k) m = past zs k (omega arith)
+    go ys l (suc (suc (suc (suc n)))) = ap (λ (o : Operand). o .op) (sym (List·getD-eq-default ys unused {n = suc (suc (suc (suc n)))} (omega arith)))

@@ -10,9 +10,10 @@ use Rattle.classes.proofs.Tests.{and-i}
 use Rattle.classes.proofs.Boxes.{exact}
 use Rattle.classes.proofs.Accepts.{numbered, numbered-refusals, exact-table}
 use Rattle.classes.proofs.Find.{every}
+use Rattle.classes.proofs.Operands.{operandsIn}
 use Rattle.classes.proofs.Uses.{uses, usesForm, isRead, madeOfRead}
 use Rattle.inverse.proofs.Fill.{apart}
-use Rattle.inverse.proofs.Good.{least, leastIn, nopsIn, operandsIn, sound, sameOperands, before, twin, paired, good}
+use Rattle.inverse.proofs.Good.{least, leastIn, nopsIn, sound, sameOperands, before, twin, paired, good}
 
 sound-table : (wide : Bool) → T (every sound (table wide))
 unfolding every sound madeOfRead six usesForm uses isRead least leastIn match nopsIn apart operandsIn table common byWidth

@@ -1,6 +1,6 @@
 -- From operands back to bits: what each operand puts into a word, and that the operands of a word put its own fields back.
 -- Assumes nothing.
-use Prim.Native.Nat.{ℕ, zero, suc, _+_, _*_, _-_, _/_, _%_, _^_, _≤_, _<_}
+use Prim.Native.Nat.{ℕ, zero, suc, _+_, _*_, _-_, _/_, _%_, _^_, _<_}
 use mathlib.Core.Path.{_≡_, refl, sym, _∙_, ap, ap₂}
 use mathlib.Core.Bool.{Bool, true, false, not, cond, _&&_}
 use mathlib.Core.List.{List, [], _∷_}
@@ -9,10 +9,11 @@ use native.Mathlib.Omega.{arith}
 use borrow.Author.Tests.{ltb-true, ltb-false, eqb-true}
 use lib.Dec.{T, eqb, ltb}
 use lib.IntN.{ℤ, pos, negsuc, _*ℤ_}
-use lib.ListN.{length}
+use lib.ListN.{length, getD}
 use Rattle.word.specs.Word.{Field, sameField, op, rs, rt, rd, sa, fn, Fields, room, Fit, word}
 use Rattle.word.specs.Numbers.{imm, index, signed, modulo64, branchTo, jumpTo, sizeOf}
-use Rattle.word.proofs.Signed.{neg-pos, low16, high16, branch-is, size-is}
+use Rattle.word.proofs.Fields.{field-small, imm-small, index-small}
+use Rattle.word.proofs.Signed.{neg-pos, by-sign, branch-is, size-is}
 use Rattle.reading.specs.declared.Op.{Op}
 use Rattle.reading.specs.declared.Op.the-variants.{Reg, FReg, Imm, Mem, Addr, Cop0}
 use Rattle.classes.specs.Row.{Code, reg, freg, cop0, num, size, s16, u16, mem, br, jmp, Form, end, _▸_, posSize, link}
@@ -77,36 +78,19 @@ filled link va n o = cond (eqb n 1) (at rs (o 0) + 31 * 2 ^ 11) (at rd (o 0) + a
 
 -- the operand at a place; register 0 where there is none
 abbrev pub nth : List Op → ℕ → Op
-nth [] n = Reg 0
-nth (o ∷ os) zero = o
-nth (o ∷ os) (suc n) = nth os n
+nth os n = getD os n (Reg 0)
 
 -- ── numbers come back ──
 
 signed-back : (u : ℕ) → u < 65536 → modulo64 (signed 16 u) % 2 ^ 16 ≡ u
-signed-back u h = go (ltb u 32768) refl
-  where
-    go : (b : Bool) → ltb u 32768 ≡ b → modulo64 (signed 16 u) % 2 ^ 16 ≡ u
-    go true e = ap (λ (z : ℤ). modulo64 z % 2 ^ 16) (low16 u (ltb-true u 32768 e)) ∙ omega (arith, ltb-true u 32768 e)
-    go false e = ap (λ (z : ℤ). modulo64 z % 2 ^ 16) (high16 u (ltb-false u 32768 e) h) ∙ omega (arith, ltb-false u 32768 e)
-
--- four times a signed immediate, modulo 2^64
-offset-low : (u : ℕ) → u < 32768 → modulo64 (pos 4 *ℤ signed 16 u) ≡ 4 * u
-offset-low u h = ap (λ (z : ℤ). modulo64 (pos 4 *ℤ z)) (low16 u h) ∙ omega arith
-
-offset-high : (u : ℕ) → 32768 ≤ u → u < 65536 → modulo64 (pos 4 *ℤ signed 16 u) ≡ 2 ^ 64 - 4 * (65536 - u)
-offset-high u h l =
-    ap (λ (z : ℤ). modulo64 (pos 4 *ℤ z)) (high16 u h l)
-    ∙ (ap modulo64 (neg-pos (4 * suc (65535 - u)) (omega arith)) ∙ omega arith)
+signed-back u h = by-sign (λ z. modulo64 z % 2 ^ 16 ≡ u) u h (λ l. omega arith) (λ l. omega arith)
 
 branch-back : (va u : ℕ) → u < 65536 → branchBack va (branchTo va u) ≡ u
 unfolding branchBack
-branch-back va u h = ap (λ (t : ℕ). (t + (2 ^ 64 - (va + 4) % 2 ^ 64)) % 2 ^ 64 / 4 % 2 ^ 16) (branch-is va u) ∙ go (ltb u 32768) refl
-  where
-    go : (b : Bool) → ltb u 32768 ≡ b →
-        (((va + 4) % 2 ^ 64 + modulo64 (pos 4 *ℤ signed 16 u)) % 2 ^ 64 + (2 ^ 64 - (va + 4) % 2 ^ 64)) % 2 ^ 64 / 4 % 2 ^ 16 ≡ u
-    go true e = omega (arith, ltb-true u 32768 e, offset-low u (ltb-true u 32768 e))
-    go false e = omega (arith, ltb-false u 32768 e, offset-high u (ltb-false u 32768 e) h)
+branch-back va u h =
+    ap (λ (t : ℕ). (t + (2 ^ 64 - (va + 4) % 2 ^ 64)) % 2 ^ 64 / 4 % 2 ^ 16) (branch-is va u)
+    ∙ by-sign (λ z. (((va + 4) % 2 ^ 64 + modulo64 (pos 4 *ℤ z)) % 2 ^ 64 + (2 ^ 64 - (va + 4) % 2 ^ 64)) % 2 ^ 64 / 4 % 2 ^ 16 ≡ u) u h (λ l. omega arith)
+    (λ l. rw (neg-pos (4 * suc (65535 - u)) (omega arith)) (omega arith))
 
 jump-back : (va i : ℕ) → i < 67108864 → jumpTo va i / 4 % 2 ^ 26 ≡ i
 unfolding jumpTo
@@ -120,22 +104,6 @@ ins-back msb lsb h l = ap (λ (z : ℤ). (modulo64 z % 32 + lsb + 31) % 32) (siz
     go false e = omega (arith, ltb-false (msb + 1) lsb e)
 
 -- ── a word's operands put its fields back ──
-
-pub imm-lt : (f : Fields) → Fit f → imm f < 65536
-unfolding imm
-imm-lt f h = omega (arith, h rd, h sa, h fn)
-
-index-lt : (f : Fields) → Fit f → index f < 67108864
-unfolding index
-index-lt f h = omega (arith, h rs, h rt, h rd, h sa, h fn)
-
-field-lt : (f : Fields) → Fit f → (x : Field) → f x < 2 ^ 64
-field-lt f h op = omega (arith, h op)
-field-lt f h rs = omega (arith, h rs)
-field-lt f h rt = omega (arith, h rt)
-field-lt f h rd = omega (arith, h rd)
-field-lt f h sa = omega (arith, h sa)
-field-lt f h fn = omega (arith, h fn)
 
 one-back : (x : Field) (f : Fields) → Fit f → f x % room x * place x ≡ weigh (sameField x) f
 one-back x f h = ap (λ (n : ℕ). n * place x) (mod-eq-of-lt (h x)) ∙ sym (weigh-one x f)
@@ -161,13 +129,13 @@ unfolding part out uses
 part-law (reg x) va f h = one-back x f h
 part-law (freg x) va f h = one-back x f h
 part-law (cop0 x) va f h = one-back x f h
-part-law (num x) va f h = ap (λ (n : ℕ). n % room x * place x) (mod-eq-of-lt (field-lt f h x)) ∙ one-back x f h
+part-law (num x) va f h = ap (λ (n : ℕ). n % room x * place x) (mod-eq-of-lt (omega (arith, field-small f h x))) ∙ one-back x f h
 part-law size va f h = omega (arith, h rd, weigh-one rd f)
-part-law s16 va f h = imm-back f _ (signed-back (imm f) (imm-lt f h))
-part-law u16 va f h = imm-back f _ (omega (arith, imm-lt f h))
-part-law mem va f h = omega (arith, h rs, signed-back (imm f) (imm-lt f h), mem-back f h)
-part-law br va f h = imm-back f _ (branch-back va (imm f) (imm-lt f h))
-part-law jmp va f h = jump-back va (index f) (index-lt f h) ∙ sym (weigh-index f)
+part-law s16 va f h = imm-back f _ (signed-back (imm f) (imm-small f h))
+part-law u16 va f h = imm-back f _ (omega (arith, imm-small f h))
+part-law mem va f h = omega (arith, h rs, signed-back (imm f) (imm-small f h), mem-back f h)
+part-law br va f h = imm-back f _ (branch-back va (imm f) (imm-small f h))
+part-law jmp va f h = jump-back va (index f) (index-small f h) ∙ sym (weigh-index f)
 
 -- no field is used twice
 unfoldable pub apart : Form → Bool

@@ -1,7 +1,7 @@
 -- THE TEST that a table of classes and an acceptance table pass for demand 3: each word is in one row or is refused, each row is well
 -- made, and rows of one mnemonic are twins whose words stand in order. All that the laws need of the tables is here.
 -- Assumes nothing.
-use Prim.Native.Nat.{ℕ, suc}
+use Prim.Native.Nat.{ℕ}
 use mathlib.Core.Bool.{Bool, true, false, not, _&&_, _||_}
 use mathlib.Core.List.{List, [], _∷_}
 use native.Mathlib.Decide.{ℕ-discrete}
@@ -9,7 +9,7 @@ use lib.Dec.{eqb, ltb, leb}
 use lib.IntN.{ℤ, pos, negsuc}
 use Rattle.word.specs.Word.{Field, Fields, room}
 use Rattle.reading.specs.Kind as kind
-use Rattle.classes.specs.Row.{Pat, is, read, readBut, skip, skipBut, low, Form, end, _▸_, posSize, link, Row, patOf}
+use Rattle.classes.specs.Row.{Pat, is, read, readBut, skip, skipBut, low, Form, Row, patOf}
 use Rattle.classes.specs.Row.{Control, Control-discrete, Change, Change-discrete}
 use Rattle.classes.specs.Meaning.{match, six}
 use Rattle.classes.specs.Table.{rt-imm, rt-uimm}
@@ -18,6 +18,7 @@ use Rattle.classes.proofs.Tests.{sameForm}
 use Rattle.classes.proofs.Boxes.{exact}
 use Rattle.classes.proofs.Accepts.{numbered}
 use Rattle.classes.proofs.Find.{every}
+use Rattle.classes.proofs.Operands.{operandsIn}
 use Rattle.classes.proofs.Uses.{isRead, madeOfRead}
 use Rattle.inverse.specs.Same.{groups}
 use Rattle.inverse.proofs.Fill.{apart}
@@ -62,13 +63,6 @@ unfoldable pub nopsIn : Row → Bool
 nopsIn r =
     not (r .nops)
     || (isZero (r .pop) && (isZero (r .pfn) && (isFree (r .prs) && (isRead (r .prt) && (isRead (r .prd) && isRead (r .psa))))))
-
--- the most operands that a form has
-unfoldable pub operandsIn : Form → ℕ
-operandsIn end = 0
-operandsIn (c ▸ φ) = suc (operandsIn φ)
-operandsIn posSize = 2
-operandsIn link = 2
 
 unfoldable pub sound : Row → Bool
 sound r = madeOfRead r && (six (leastIn r) && (nopsIn r && (apart (r .form) && leb (operandsIn (r .form)) 4)))

@@ -19,6 +19,7 @@ use Rattle.classes.specs.Meaning.{intOf}
 use Rattle.classes.specs.Table.{table}
 use Rattle.classes.specs.Refusals.{Refusal, refusals}
 use Rattle.classes.specs.Decoded.{acceptedAs, decodedOf}
+use Rattle.classes.proofs.Accepts.{accepted-as, accepted-insn}
 use Rattle.inverse.specs.Encoded.{Has, encodedAs, Encodes, smallest, no-word}
 use Rattle.inverse.specs.Theorems.{Accepted, Demand3, Theorems}
 use Rattle.inverse.proofs.Good.{good}
@@ -44,12 +45,6 @@ unique answer i d e (smallest p h l) (no-word q z n) = absurd (n (d .word) h)
 unique answer i d e (no-word p y m) (smallest q k l) = absurd (m (e .word) k)
 unique answer i d e (no-word p y m) (no-word q z n) = λ t. encodedTo ((p ∙ sym q) t) ((y ∙ sym z) t)
 
-pub accepted-as : (d : Decoded) (i : Insn) → d .number ≡ 0 → d .insn ≡ i → d ≡ acceptedAs i
-accepted-as d i e f = λ t. record { number = e t; insn = f t }
-
-accepted-insn : (d : Decoded) → d .number ≡ 0 → d ≡ acceptedAs (d .insn)
-accepted-insn d e = accepted-as d (d .insn) e refl
-
 small : (w : ℕ) → Dec (w < words)
 small w = go (ltb w words) refl
   where
@@ -62,7 +57,7 @@ has : (answer : ℕ → Decoded) (i : Insn) (w : ℕ) → Dec (Has answer i w)
 has answer i w = go (small w) (ℕ-discrete ((answer w) .number) 0) (insn ((answer w) .insn) i)
   where
     go : Dec (w < words) → Dec ((answer w) .number ≡ 0) → Dec ((answer w) .insn ≡ i) → Dec (Has answer i w)
-    go (yes l) (yes z) (yes e) = yes (record { small = l; reads = λ t. record { number = z t; insn = e t } })
+    go (yes l) (yes z) (yes e) = yes (record { small = l; reads = accepted-as (answer w) i z e })
     go (yes l) (yes z) (no n) = no (λ h. n (ap (λ (d : Decoded). d .insn) (h .reads)))
     go (yes l) (no n) d = no (λ h. n (ap (λ (e : Decoded). e .number) (h .reads)))
     go (no n) c d = no (λ h. n (h .small))

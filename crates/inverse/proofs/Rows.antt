@@ -8,25 +8,21 @@ use mathlib.Core.Logic.{⊎-elim}
 use native.Mathlib.Nat.{le-refl, le-of-eq}
 use native.Mathlib.Omega.{arith}
 use borrow.Author.Tests.{eqb-true, eqb-false, eq-eqb, le-leb}
-use lib.Dec.{T, eqb, ltb, leb, eqb→eq, leb→le, ltb→lt}
+use lib.Dec.{T, T-not, not-T, eqb, ltb, leb, eqb→eq, leb→le, ltb→lt}
 use lib.ListN.{length}
 use Rattle.word.specs.Word.{Field, op, rs, rt, rd, sa, fn, Fields, room, Fit, word}
 use Rattle.word.proofs.Fields.{word-mono}
 use Rattle.reading.specs.declared.Op.{Op}
 use Rattle.classes.specs.Row.{Pat, is, read, readBut, skip, skipBut, low, Row, patOf}
 use Rattle.classes.specs.Meaning.{match, six, nopLike, takes, outs}
-use Rattle.classes.proofs.Tests.{and-l, and-r, and-i, or-l, or-r, or-e, not-e, not-i, at-true, at-false, six-at, six-make, beq-same}
+use Rattle.classes.proofs.Tests.{and-l, and-r, and-i, or-l, or-r, or-e, chosen, at-true, at-false, six-at, six-make, beq-same}
+use Rattle.classes.proofs.Operands.{operandsIn}
 use Rattle.classes.proofs.Uses.{usesForm, isRead, madeOfRead, outs-same}
 use Rattle.inverse.proofs.Weigh.{weigh, word-mixed}
 use Rattle.inverse.proofs.Fill.{filled, nth, apart, fill-law}
-use Rattle.inverse.proofs.Good.{least, base, leastIn, isZero, isFree, nopsIn, operandsIn, sound}
+use Rattle.inverse.proofs.Good.{least, base, leastIn, isZero, isFree, nopsIn, sound}
 
 -- ── what a row takes ──
-
--- either way of a choice
-pub chosen : (b : Bool) (P : ℕ → Type 0) (m n : ℕ) → (T b → P m) → (¬ T b → P n) → P (cond b m n)
-chosen true P m n yes-case no-case = yes-case tt
-chosen false P m n yes-case no-case = no-case (λ t. t)
 
 module _ (r : Row) (f : Fields) where
   abbrev asked : Bool
@@ -38,7 +34,7 @@ module _ (r : Row) (f : Fields) where
 
   pub takes-nop : T (takes r f) → T (r .nops) → ¬ T (nopLike f)
   unfolding takes
-  takes-nop t n l = not-e (r .nops && nopLike f) (and-r asked (not (r .nops && nopLike f)) t) (and-i (r .nops) (nopLike f) n l)
+  takes-nop t n l = T-not (r .nops && nopLike f) (and-r asked (not (r .nops && nopLike f)) t) (and-i (r .nops) (nopLike f) n l)
 
   pub takes-make : ((x : Field) → T (match (patOf r x) (f x))) → T (not (r .nops && nopLike f)) → T (takes r f)
   unfolding takes
@@ -217,7 +213,7 @@ nops-row r t n =
     }
   where
     t₁ : T (isZero (r .pop) && (isZero (r .pfn) && (isFree (r .prs) && (isRead (r .prt) && (isRead (r .prd) && isRead (r .psa))))))
-    t₁ = ⊎-elim (λ u. absurd (not-e (r .nops) u n)) (λ u. u) (or-e (not (r .nops)) _ t)
+    t₁ = ⊎-elim (λ u. absurd (T-not (r .nops) u n)) (λ u. u) (or-e (not (r .nops)) _ t)
 
     t₂ : T (isZero (r .pfn) && (isFree (r .prs) && (isRead (r .prt) && (isRead (r .prd) && isRead (r .psa)))))
     t₂ = and-r (isZero (r .pop)) _ t₁
@@ -325,7 +321,7 @@ module _ (r : Row) (ok : Sound r) (va : ℕ) (f : Fields) (fit : Fit f) (t : T (
         fields = g;
         are = refl;
         fit = lift-fit r ok f fit;
-        taken = takes-make r g match-at (not-i (r .nops && nopLike g) (not-nop n));
+        taken = takes-make r g match-at (not-T (r .nops && nopLike g) (not-nop n));
         operands = same-read r ok f va g (lift-read r ok f);
         le = word-mono g f le-at;
       }
@@ -395,7 +391,7 @@ module _ (r : Row) (ok : Sound r) (va : ℕ) (f : Fields) (fit : Fit f) (t : T (
           fields = raised g;
           are = raised-word g rs-zero;
           fit = raised-fit;
-          taken = takes-make r (raised g) raised-match (not-i (r .nops && nopLike (raised g)) raised-nop);
+          taken = takes-make r (raised g) raised-match (not-T (r .nops && nopLike (raised g)) raised-nop);
           operands = same-read r ok f va (raised g) raised-read;
           le = subst (λ (n : ℕ). n ≤ word f) (sym (raised-word g rs-zero)) (word-mono (raised g) f raised-le);
         }
@@ -407,4 +403,4 @@ module _ (r : Row) (ok : Sound r) (va : ℕ) (f : Fields) (fit : Fit f) (t : T (
     where
       go : (b : Bool) → (r .nops && isNop (word g)) ≡ b → Good (cond b (word g + 2 ^ 21) (word g))
       go true e = own-raised (and-l (r .nops) (isNop (word g)) (at-true e)) (and-r (r .nops) (isNop (word g)) (at-true e))
-      go false e = own-plain (not-e (r .nops && isNop (word g)) (at-false e))
+      go false e = own-plain (T-not (r .nops && isNop (word g)) (at-false e))

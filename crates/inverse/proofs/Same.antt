@@ -1,30 +1,34 @@
 -- When two words have one reading.
 -- Assumes nothing.
-use Prim.Native.Nat.{ℕ, suc, _%_, _<_}
-use mathlib.Core.Path.{_≡_, refl, sym, _∙_, ap, ap₂, subst}
+use Prim.Native.Nat.{ℕ, _%_, _<_}
+use mathlib.Core.Path.{_≡_, sym, _∙_, ap, subst}
 use mathlib.Core.Bool.{Bool, true, false, cond}
-use mathlib.Core.List.{List, [], _∷_}
+use mathlib.Core.List.{List}
 use mathlib.Core.Logic.{_⊎_, inl, inr, _↔_}
 use mathlib.Core.Option.{some}
 use native.Mathlib.Omega.{arith}
 use lib.Dec.{T, eqb→eq}
 use lib.ListN.{length}
+use lib.Seq.{ext-getD}
 use Rattle.word.specs.Word.{Field, op, rs, rt, rd, sa, fn, Fields, room, Fit, fieldsOf}
 use Rattle.word.proofs.Fields.{fields-fit, fields-word}
 use Rattle.reading.specs.declared.Op.{Op}
+use Rattle.reading.specs.declared.Op.the-variants.{Reg}
 use Rattle.reading.specs.declared.Insn.{Insn}
 use Rattle.reading.specs.declared.Decoded.{Decoded}
 use Rattle.classes.specs.Row.{Pat, is, read, readBut, skip, skipBut, low, Row, patOf}
 use Rattle.classes.specs.Meaning.{match, takes, find, outs, reading, meaning}
 use Rattle.classes.specs.Refusals.{elem, Refusal}
 use Rattle.classes.specs.Theorems.{AgreeAt, Agree}
+use Rattle.classes.proofs.Tests.{chosen}
+use Rattle.classes.proofs.Find.{In, find-in}
 use Rattle.classes.proofs.Uses.{usesForm, isRead, read-agree}
 use Rattle.inverse.specs.Same.{groups, Alike, one-class, twins}
 use Rattle.inverse.proofs.Weigh.{weigh}
 use Rattle.inverse.proofs.Fill.{filled, nth, fill-law}
-use Rattle.inverse.proofs.Rows.{chosen, takes-at, Sound, same-read}
+use Rattle.inverse.proofs.Rows.{takes-at, Sound, same-read}
 use Rattle.inverse.proofs.Twins.{Pair}
-use Rattle.inverse.proofs.Tables.{In, find-in, Near, same-kind, Good}
+use Rattle.inverse.proofs.Tables.{Near, same-kind, Good}
 use Rattle.inverse.proofs.Smallest.{answerBy, operandAt, operands-back, near-reading, row-of, answer-is}
 
 -- ── operands tell the fields that they are made of ──
@@ -86,13 +90,6 @@ agree-outs r ok va f g a = same-read r ok g va f (λ x t. read-agree (patOf r x)
 
 -- ── the two directions ──
 
--- lists of one length with the same operand at each place
-nth-tells : (k l : List Op) → length k ≡ length l → ((n : ℕ) → nth k n ≡ nth l n) → k ≡ l
-nth-tells [] [] e h = refl
-nth-tells [] (b ∷ l) e h = absurd (omega arith)
-nth-tells (a ∷ k) [] e h = absurd (omega arith)
-nth-tells (a ∷ k) (b ∷ l) e h = ap₂ (λ (o : Op) (os : List Op). o ∷ os) (h 0) (nth-tells k l (omega arith) (λ n. h (suc n)))
-
 module _ (ts : List Row) (es : List Refusal) (ok : Good ts es) (va w v : ℕ) where
   abbrev f : Fields
   f = fieldsOf w
@@ -122,7 +119,7 @@ module _ (ts : List Row) (es : List Refusal) (ok : Good ts es) (va w v : ℕ) wh
 
     lists : Same → outs (r .form) va f ≡ outs (s .form) va g
     unfolding meaning reading
-    lists e = nth-tells (outs (r .form) va f) (outs (s .form) va g) (ap (λ (i : Insn). i .count) (meanings e)) (λ n. ap (λ (o : ℕ → Op). o n) places)
+    lists e = ext-getD (Reg 0) (outs (r .form) va f) (outs (s .form) va g) (ap (λ (i : Insn). i .count) (meanings e)) (λ n l. ap (λ (o : ℕ → Op). o n) places)
       where
         places : nth (outs (r .form) va f) ≡ nth (outs (s .form) va g)
         places =

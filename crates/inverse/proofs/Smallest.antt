@@ -1,36 +1,35 @@
 -- Which word a reading gets: the candidate of the reading's row has the reading and is the smallest, if any word has it.
 -- Assumes nothing.
-use Prim.Native.Nat.{ℕ, zero, suc, _+_, _≤_, _<_, zero-le, suc-le-suc}
+use Prim.Native.Nat.{ℕ, _≤_, _<_}
 use mathlib.Core.Path.{_≡_, refl, sym, _∙_, ap, subst, fun-ext}
-use mathlib.Core.Bool.{Bool, true, false, cond}
-use mathlib.Core.List.{List, [], _∷_}
+use mathlib.Core.List.{List}
 use mathlib.Core.Logic.{inl, inr}
-use mathlib.Core.Option.{some}
-use native.Mathlib.Nat.{le-refl, le-trans}
+use mathlib.Core.Option.{Option, none, some}
 use native.Mathlib.Omega.{arith}
-use lib.Dec.{T, eqb}
+use lib.Dec.{T}
 use lib.ListN.{length, getD}
-use Rattle.word.specs.Word.{Fields, Fit, fieldsOf, word, words, rs, rd}
+use Rattle.word.specs.Word.{Fields, Fit, fieldsOf, word, words}
 use Rattle.word.proofs.Fields.{fields-fit, word-small, word-fields, fields-word}
 use Rattle.reading.specs.declared.Op.{Op}
-use Rattle.reading.specs.declared.Op.the-variants.{Reg}
 use Rattle.reading.specs.declared.Operand.{Operand}
 use Rattle.reading.specs.declared.Insn.{Insn}
 use Rattle.reading.specs.declared.Decoded.{Decoded}
 use Rattle.reading.specs.Reading.{unused}
-use Rattle.classes.specs.Row.{Form, end, _▸_, posSize, link, Row}
-use Rattle.classes.specs.Meaning.{takes, find, outs, intOf, head, tail, slots, reading, meaning}
+use Rattle.classes.specs.Row.{Row}
+use Rattle.classes.specs.Meaning.{takes, find, outs, intOf, reading, meaning}
 use Rattle.classes.specs.Refusals.{Refusal}
 use Rattle.classes.specs.Decoded.{acceptedAs, decodedBy}
 use Rattle.classes.specs.Theorems.{taking}
-use Rattle.classes.proofs.Boxes.{bit, taken-or-refused}
-use Rattle.classes.proofs.Accepts.{one-taking, accepted-by}
+use Rattle.classes.proofs.Boxes.{taken-or-refused}
+use Rattle.classes.proofs.Accepts.{none-found, one-taking, accepted-by}
+use Rattle.classes.proofs.Find.{In, find-in, only-row}
+use Rattle.classes.proofs.Operands.{most-outs, slot-at}
 use Rattle.inverse.specs.Encoded.{Has}
 use Rattle.inverse.proofs.Fill.{nth}
-use Rattle.inverse.proofs.Good.{operandsIn, suits}
+use Rattle.inverse.proofs.Good.{suits}
 use Rattle.inverse.proofs.Rows.{candidate, Sound, Within, own}
 use Rattle.inverse.proofs.Twins.{valueIn, own-suits, twin-within}
-use Rattle.inverse.proofs.Tables.{In, find-in, only-row, pick, Near, Picked, pick-law, Good}
+use Rattle.inverse.proofs.Tables.{pick, Near, Picked, pick-law, Good}
 
 -- the answer for a word at an address, by two tables; decodedOf's, if they are those of the definition
 abbrev pub answerBy : List Row → List Refusal → ℕ → ℕ → Decoded
@@ -41,51 +40,18 @@ answerBy ts es va w = decodedBy ts es va (fieldsOf w)
 abbrev pub operandAt : List Operand → ℕ → Op
 operandAt xs n = (getD xs n unused) .op
 
-nth-head : (os : List Op) → head os ≡ nth os 0
-nth-head [] = refl
-nth-head (o ∷ os) = refl
-
-nth-tail : (os : List Op) (n : ℕ) → nth (tail os) n ≡ nth os (suc n)
-nth-tail [] n = refl
-nth-tail (o ∷ os) n = refl
-
-nth-past : (os : List Op) (n : ℕ) → length os ≤ n → nth os n ≡ Reg 0
-nth-past [] n h = refl
-nth-past (o ∷ os) zero h = absurd (omega arith)
-nth-past (o ∷ os) (suc n) h = nth-past os n (omega arith)
-
-slot-at : (os : List Op) → length os ≤ 4 → (n : ℕ) → (getD (slots os) n unused) .op ≡ nth os n
-slot-at os h zero = nth-head os
-slot-at os h (suc zero) = nth-head (tail os) ∙ nth-tail os 0
-slot-at os h (suc (suc zero)) = nth-head (tail (tail os)) ∙ (nth-tail (tail os) 0 ∙ nth-tail os 1)
-slot-at os h (suc (suc (suc zero))) = nth-head (tail (tail (tail os))) ∙ (nth-tail (tail (tail os)) 0 ∙ (nth-tail (tail os) 1 ∙ nth-tail os 2))
-slot-at os h (suc (suc (suc (suc n)))) = sym (nth-past os (suc (suc (suc (suc n)))) (omega arith))
-
-outs-length : (φ : Form) (va : ℕ) (f : Fields) → length (outs φ va f) ≤ operandsIn φ
-unfolding outs operandsIn
-outs-length end va f = zero-le
-outs-length (c ▸ φ) va f = suc-le-suc (outs-length φ va f)
-outs-length posSize va f = le-refl 2
-outs-length link va f = go (eqb (f rd) 31)
-  where
-    go : (b : Bool) → length (cond b (Reg (f rs) ∷ []) (Reg (f rd) ∷ Reg (f rs) ∷ [])) ≤ 2
-    go true = omega arith
-    go false = omega arith
-
 pub operands-back : (r : Row) → Sound r → (va : ℕ) (f : Fields) → operandAt ((meaning r va f) .ops) ≡ nth (outs (r .form) va f)
 unfolding meaning reading
-operands-back r ok va f = fun-ext (slot-at (outs (r .form) va f) (le-trans (outs-length (r .form) va f) (ok .four)))
+operands-back r ok va f = fun-ext (λ n. ap (λ (o : Operand). o .op) (slot-at (outs (r .form) va f) (most-outs (r .form) (ok .four) va f) n))
 
 -- ── the row of an accepted word ──
 
 found-of : (ts : List Row) (f : Fields) → 1 ≤ taking ts f → (r : Row) × (find ts f ≡ some r)
-unfolding taking find
-found-of [] f h = absurd (omega arith)
-found-of (s ∷ ts) f h = go (takes s f) h (found-of ts f)
+found-of ts f h = go (find ts f) refl
   where
-    go : (b : Bool) → 1 ≤ bit b + taking ts f → (1 ≤ taking ts f → (r : Row) × (find ts f ≡ some r)) → (r : Row) × (cond b (some s) (find ts f) ≡ some r)
-    go true l rec = (s, refl)
-    go false l rec = rec (omega arith)
+    go : (o : Option Row) → find ts f ≡ o → (r : Row) × (find ts f ≡ some r)
+    go none e = absurd (omega (arith, none-found ts f e))
+    go (some r) e = (r, e)
 
 module _ (ts : List Row) (es : List Refusal) (ok : Good ts es) (va : ℕ) where
   pub row-of : (w : ℕ) → (answerBy ts es va w) .number ≡ 0 → (r : Row) × (find ts (fieldsOf w) ≡ some r)

@@ -1,78 +1,24 @@
--- The row of a word and the row of a reading, in a table that passes the test.
+-- The row of a reading, in a table that passes the test.
 -- Assumes nothing.
-use Prim.Native.Nat.{ℕ, _+_, _≤_}
+use Prim.Native.Nat.{ℕ}
 use mathlib.Core.Path.{_≡_, refl, sym, _∙_, ap, subst}
 use mathlib.Core.Bool.{Bool, true, false, not, cond, _&&_, _||_}
 use mathlib.Core.List.{List, [], _∷_}
 use mathlib.Core.Logic.{_⊎_, inl, inr}
 use mathlib.Core.Option.{Option, none, some, Option·none-ne-some, Option·some-injective}
-use native.Mathlib.Omega.{arith}
 use borrow.Author.Tests.{eqb-true, eq-eqb}
-use lib.Dec.{T, eqb, eqb→eq, eqb-refl}
+use lib.Dec.{T, T-not, eqb, eqb→eq, eqb-refl}
 use lib.IntN.{ℤ}
-use Rattle.word.specs.Word.{Fields}
 use Rattle.reading.specs.Kind as kind
 use Rattle.classes.specs.Row.{Row}
-use Rattle.classes.specs.Meaning.{takes, find}
 use Rattle.classes.specs.Refusals.{Refusal}
-use Rattle.classes.specs.Theorems.{taking}
-use Rattle.classes.proofs.Tests.{and-l, and-r, and-i, not-e, implied, at-true, at-false}
-use Rattle.classes.proofs.Boxes.{bit, exact}
+use Rattle.classes.proofs.Tests.{and-l, and-r, and-i, implied, at-true, at-false}
+use Rattle.classes.proofs.Boxes.{exact}
 use Rattle.classes.proofs.Accepts.{numbered}
-use Rattle.classes.proofs.Find.{every}
+use Rattle.classes.proofs.Find.{In, every, every-in}
 use Rattle.inverse.proofs.Good.{sound, holds, suits, twin, paired, good}
 use Rattle.inverse.proofs.Rows.{Sound, sound-row}
 use Rattle.inverse.proofs.Twins.{Pair, twin-pair}
-
--- ── rows of a table ──
-
-unfoldable pub In : Row → List Row → Type 0
-In r [] = ⊥
-In r (s ∷ ts) = (r ≡ s) ⊎ In r ts
-
-every-in : (p : Row → Bool) (ts : List Row) → T (every p ts) → (r : Row) → In r ts → T (p r)
-unfolding every In
-every-in p [] t r i = absurd i
-every-in p (s ∷ ts) t r (inl e) = subst (λ (q : Row). T (p q)) (sym e) (and-l (p s) (every p ts) t)
-every-in p (s ∷ ts) t r (inr i) = every-in p ts (and-r (p s) (every p ts) t) r i
-
--- the row of a word is one that takes it
-pub find-in : (ts : List Row) (f : Fields) (r : Row) → find ts f ≡ some r → In r ts × T (takes r f)
-unfolding find In
-find-in [] f r e = absurd (Option·none-ne-some r e)
-find-in (s ∷ ts) f r e = go (find-in ts f r) (takes s f) refl e
-  where
-    go : (find ts f ≡ some r → In r ts × T (takes r f)) → (b : Bool) → takes s f ≡ b → cond b (some s) (find ts f) ≡ some r →
-        ((r ≡ s) ⊎ In r ts) × T (takes r f)
-    go rec true q d =
-        let is : s ≡ r = Option·some-injective s r d in
-        (inl (sym is), subst (λ (x : Row). T (takes x f)) is (at-true q))
-    go rec false q d = let p : In r ts × T (takes r f) = rec d in (inr (p .0), p .1)
-
-in-taking : (ts : List Row) (f : Fields) (r : Row) → In r ts → T (takes r f) → 1 ≤ taking ts f
-unfolding taking In
-in-taking [] f r i t = absurd i
-in-taking (s ∷ ts) f r (inl e) t = go (takes s f) (subst (λ (x : Row). T (takes x f)) e t)
-  where
-    go : (b : Bool) → T b → 1 ≤ bit b + taking ts f
-    go true u = omega arith
-    go false u = absurd u
-in-taking (s ∷ ts) f r (inr i) t = omega (arith, in-taking ts f r i t)
-
--- if no more than one row takes the word, each that does is its row
-pub only-row : (ts : List Row) (f : Fields) → taking ts f ≤ 1 → (r : Row) → In r ts → T (takes r f) → find ts f ≡ some r
-unfolding taking find In
-only-row [] f l r i t = absurd i
-only-row (s ∷ ts) f l r (inl e) t = go (takes s f) (subst (λ (x : Row). T (takes x f)) e t)
-  where
-    go : (b : Bool) → T b → cond b (some s) (find ts f) ≡ some r
-    go true u = ap some (sym e)
-    go false u = absurd u
-only-row (s ∷ ts) f l r (inr i) t = go (takes s f) l (in-taking ts f r i t) (λ m. only-row ts f m r i t)
-  where
-    go : (b : Bool) → bit b + taking ts f ≤ 1 → 1 ≤ taking ts f → (taking ts f ≤ 1 → find ts f ≡ some r) → cond b (some s) (find ts f) ≡ some r
-    go true m n rec = absurd (omega arith)
-    go false m n rec = rec (omega arith)
 
 -- ── the row of a reading ──
 
@@ -164,7 +110,7 @@ pick-law (s ∷ ts) t r i z u = go (λ j. pick-law ts (later s ts t) r j z u) (e
 
     behind : (eqb (s .kind) (r .kind) && suits s z) ≡ false → (r ≡ s) ⊎ In r ts → In r ts
     behind q (inl e) =
-        absurd (not-e (eqb (s .kind) (r .kind) && suits s z) (at-false q)
+        absurd (T-not (eqb (s .kind) (r .kind) && suits s z) (at-false q)
         (subst (λ (x : Row). T (eqb (x .kind) (r .kind) && suits x z)) e (and-i (eqb (r .kind) (r .kind)) (suits r z) (eqb-refl (r .kind)) u)))
     behind q (inr j) = j
 

@@ -8,24 +8,24 @@ use mathlib.Core.Logic.{⊎-elim}
 use native.Mathlib.Decide.{ℕ-discrete}
 use native.Mathlib.Nat.{le-trans}
 use native.Mathlib.Omega.{arith}
-use borrow.Author.Tests.{ltb-true, ltb-false, lt-ltb}
-use lib.Dec.{T, eqb, ltb, leb, leb→le, ltb→lt}
+use borrow.Author.Tests.{lt-ltb}
+use lib.Dec.{T, T-not, eqb, ltb, leb, leb→le, ltb→lt, lt→ltb}
 use lib.IntN.{ℤ, pos}
 use lib.ListN.{length}
 use Rattle.word.specs.Word.{Field, op, Fields, Fit, word}
 use Rattle.word.specs.Numbers.{imm, signed}
-use Rattle.word.proofs.Fields.{word-mono, word-op}
-use Rattle.word.proofs.Signed.{low16, high16}
+use Rattle.word.proofs.Fields.{word-mono, word-op, imm-small}
+use Rattle.word.proofs.Signed.{low16, by-sign}
 use Rattle.reading.specs.declared.Op.{Op}
 use Rattle.reading.specs.Kind as kind
 use Rattle.classes.specs.Row.{Pat, is, read, readBut, skip, skipBut, low, Form, Control-discrete, Change-discrete, Row, patOf}
 use Rattle.classes.specs.Meaning.{match, six, takes, out, outs, intOf}
 use Rattle.classes.specs.Table.{rt-imm, rt-uimm}
 use Rattle.classes.specs.Refusals.{elem}
-use Rattle.classes.proofs.Tests.{and-l, and-r, and-i, or-r, or-e, not-e, implies, implied, at-true, six-at, sameForm, same-form, decided}
+use Rattle.classes.proofs.Tests.{and-l, and-r, and-i, or-r, or-e, implies, implied, at-true, six-at, sameForm, same-form, decided}
 use Rattle.classes.proofs.Uses.{isRead}
 use Rattle.inverse.specs.Same.{groups}
-use Rattle.inverse.proofs.Fill.{filled, nth, imm-lt}
+use Rattle.inverse.proofs.Fill.{filled, nth}
 use Rattle.inverse.proofs.Good.{least, base, inSigned, inUnsigned, holds, suits, sameOperands, sameControl, sameChange, isPlain, before, twin}
 use Rattle.inverse.proofs.Rows.{takes-at, takes-make, least-le, Sound, afterNops, candidate, Within, lift, lift-read, lift-unread, lift-match}
 use Rattle.inverse.proofs.Rows.{lift-le, lift-fit, same-read, lift-word}
@@ -33,20 +33,10 @@ use Rattle.inverse.proofs.Rows.{lift-le, lift-fit, same-read, lift-word
 -- ── the two forms of `li` ──
 
 signed-in : (u : ℕ) → u < 65536 → T (inSigned (signed 16 u))
-signed-in u h = go (ltb u 32768) refl
-  where
-    go : (b : Bool) → ltb u 32768 ≡ b → T (inSigned (signed 16 u))
-    go true e = subst (λ (z : ℤ). T (inSigned z)) (sym (low16 u (ltb-true u 32768 e))) (at-true e)
-    go false e =
-        subst (λ (z : ℤ). T (inSigned z)) (sym (high16 u (ltb-false u 32768 e) h))
-        (at-true (lt-ltb (65535 - u) 32768 (omega (arith, ltb-false u 32768 e))))
+signed-in u h = by-sign (λ z. T (inSigned z)) u h (λ l. lt→ltb u 32768 l) (λ l. lt→ltb (65535 - u) 32768 (omega arith))
 
 unsigned-same : (u : ℕ) → u < 65536 → T (inUnsigned (signed 16 u)) → signed 16 u ≡ pos u
-unsigned-same u h t = go (ltb u 32768) refl
-  where
-    go : (b : Bool) → ltb u 32768 ≡ b → signed 16 u ≡ pos u
-    go true e = low16 u (ltb-true u 32768 e)
-    go false e = absurd (subst (λ (z : ℤ). T (inUnsigned z)) (high16 u (ltb-false u 32768 e) h) t)
+unsigned-same u h = by-sign (λ z. T (inUnsigned z) → z ≡ pos u) u h (λ l t. refl) (λ l t. absurd t)
 
 -- the value of the second operand
 abbrev pub valueIn : List Op → ℤ
@@ -60,10 +50,10 @@ own-holds φ va f h =
     (implies (sameForm φ rt-uimm) (inUnsigned (valueIn (outs φ va f))) (λ y. unsigned-form (same-form φ rt-uimm y)))
   where
     signed-form : φ ≡ rt-imm → T (inSigned (valueIn (outs φ va f)))
-    signed-form e = subst (λ (ψ : Form). T (inSigned (valueIn (outs ψ va f)))) (sym e) (unfold outs out in signed-in (imm f) (imm-lt f h))
+    signed-form e = subst (λ (ψ : Form). T (inSigned (valueIn (outs ψ va f)))) (sym e) (unfold outs out in signed-in (imm f) (imm-small f h))
 
     unsigned-form : φ ≡ rt-uimm → T (inUnsigned (valueIn (outs φ va f)))
-    unsigned-form e = subst (λ (ψ : Form). T (inUnsigned (valueIn (outs ψ va f)))) (sym e) (unfold outs out in at-true (lt-ltb (imm f) 65536 (imm-lt f h)))
+    unsigned-form e = subst (λ (ψ : Form). T (inUnsigned (valueIn (outs ψ va f)))) (sym e) (unfold outs out in at-true (lt-ltb (imm f) 65536 (imm-small f h)))
 
 pub own-suits : (r : Row) (va : ℕ) (f : Fields) → Fit f → T (suits r (valueIn (outs (r .form) va f)))
 unfolding suits
@@ -78,7 +68,7 @@ signed-for-unsigned va f h t =
 unsigned-for-signed : (va : ℕ) (f : Fields) → Fit f → T (holds rt-uimm (valueIn (outs rt-imm va f))) → outs rt-uimm va f ≡ outs rt-imm va f
 unfolding holds outs out ℕ-discrete
 unsigned-for-signed va f h t =
-    let e : signed 16 (imm f) ≡ pos (imm f) = unsigned-same (imm f) (imm-lt f h) t in
+    let e : signed 16 (imm f) ≡ pos (imm f) = unsigned-same (imm f) (imm-small f h) t in
     cc
 
 -- ── what the test says of two rows ──
@@ -194,7 +184,7 @@ before-le h r ok f fit t b = ⊎-elim smaller-op no-larger (or-e smaller same-or
 
     smaller-op : T smaller → word (lift h f) ≤ word f
     smaller-op u =
-        let e : lift h f op ≡ least (h .pop) = lift-unread h ok f op (not-e (isRead (h .pop)) (and-l (not (isRead (h .pop))) _ u)) in
+        let e : lift h f op ≡ least (h .pop) = lift-unread h ok f op (T-not (isRead (h .pop)) (and-l (not (isRead (h .pop))) _ u)) in
         let l : least (h .pop) < least (r .pop) = ltb→lt (least (h .pop)) (least (r .pop)) (and-r (not (isRead (h .pop))) _ u) in
         word-op (lift h f) f (lift-fit h ok f fit) (omega (arith, e, l, least-at op))
 

@@ -1,14 +1,14 @@
 -- Operands one by one, as the code goes through them: what is left of them, whether they have registers, and what is printed of them.
 -- Assumes nothing.
-use Prim.Native.Nat.{ℕ, zero, suc, _+_, _*_, _-_, _^_, _≤_, _<_}
+use Prim.Native.Nat.{ℕ, zero, suc, _+_, _*_, _-_, _≤_, _<_}
 use mathlib.Core.Path.{_≡_, refl, sym, ap, _∙_, subst}
 use mathlib.Core.Bool.{Bool, true, false, _&&_}
 use mathlib.Core.List.{List, [], _∷_, _++_, append-assoc, append-nil}
 use native.Mathlib.Numerals.{add-one}
 use native.Mathlib.Omega.{arith}
 use lib.Dec.{T, ltb, leb}
-use lib.IntN.{ℤ, pos, negsuc}
-use lib.Signed.{mag}
+use lib.IntN.{ℤ}
+use lib.Signed.{natAbs-le}
 use lib.ListN.{length, take, drop, getD}
 use lib.Seq.{slice-cons, slice-empty}
 use borrow.Author.Tests.{leb-true, ne-eqb}
@@ -24,7 +24,7 @@ use Rattle.names.specs.Names.{letter, letters}
 use Rattle.buffers.specs.Bytes.{placed}
 use Rattle.text.specs.Text.{decimalOf}
 use Rattle.text.specs.Private.Writes.{Wrote}
-use Rattle.text.proofs.Lengths.{decimal-most}
+use Rattle.text.proofs.Lengths.{decimal-short}
 use Rattle.text.proofs.Rows.{wrote, nothing, after, bound, kept}
 use Rattle.line.specs.Line.{textOf, opText, listed, used, lineOf, registered, allRegistered, printable}
 use Rattle.line.specs.Private.Steps.{before}
@@ -32,15 +32,11 @@ use Rattle.line.specs.Private.Steps.{before}
 -- ── a signed number, as the code hands it on ──
 
 module _ (z : ℤ) (f : SFits w64 z) where
-  decimal-short : length (decimalOf z) ≤ 20
-  decimal-short = go z (f .sfits)
-    where
-      go : (z : ℤ) → mag z < 2 ^ 63 → length (decimalOf z) ≤ 20
-      go (pos n) h = decimal-most (pos n) (omega arith)
-      go (negsuc n) h = decimal-most (negsuc n) (omega arith)
+  at-most : length (decimalOf z) ≤ 20
+  at-most = decimal-short z (natAbs-le z (f .sfits))
 
   pub decimal-wrote : (at : ℕ) (d : List ℕ) {n : ℕ} {d′ : List ℕ} → at + 20 ≤ length d → n ≡ length (decimalOf (toZ w64 (ofZ w64 z))) → d′ ≡ placed at (decimalOf (toZ w64 (ofZ w64 z))) d → Wrote at 20 (decimalOf z) d d′ (at + n)
-  decimal-wrote at d h e w = wrote decimal-short (omega (arith, decimal-short)) (rw (toZ-ofZ f) at e) (rw (toZ-ofZ f) at w)
+  decimal-wrote at d h e w = wrote at-most (omega (arith, at-most)) (rw (toZ-ofZ f) at e) (rw (toZ-ofZ f) at w)
 
 -- ── what is left after k of n operands ──
 

@@ -1,36 +1,28 @@
 -- How long the line of a word is at most: one computed test of each row of the table, and what it means for every word.
 -- Assumes nothing.
-use Prim.Native.Nat.{ℕ, suc, _+_, _≤_}
-use mathlib.Core.Path.{_≡_, refl}
-use mathlib.Core.Bool.{Bool, true, false, cond}
-use mathlib.Core.List.{List, [], _∷_}
-use mathlib.Core.Option.{Option, none, some}
+use Prim.Native.Nat.{ℕ, _+_, _≤_}
+use mathlib.Core.Bool.{Bool, true, false, _&&_}
+use mathlib.Core.List.{List, [], _∷_, map}
 use native.Mathlib.Omega.{arith}
 use lib.Dec.{T, leb, eqb, leb→le}
-use lib.IntN.{ℤ, pos, negsuc}
-use lib.ListN.{length, take, length-append}
+use lib.ListN.{length, length-append}
 use Rattle.word.specs.Word.{Fields, fieldsOf, rs, rd}
 use Rattle.reading.specs.declared.Op.{Op}
 use Rattle.reading.specs.declared.Op.the-variants.{Reg, FReg, Imm, Mem, Addr, Cop0}
-use Rattle.reading.specs.declared.Operand.{Operand}
-use Rattle.reading.specs.Reading.{blankInsn}
+use Rattle.reading.specs.Reading.{operand, blankInsn}
 use Rattle.classes.specs.Row.{Code, reg, freg, cop0, num, size, s16, u16, mem, br, jmp, Form, end, _▸_, posSize, link, Row}
-use Rattle.classes.specs.Meaning.{find, out, outs, slots, reading, meaning}
+use Rattle.classes.specs.Meaning.{out, outs, reading, meaning}
 use Rattle.classes.specs.Table.{common, byWidth, table}
-use Rattle.classes.specs.Decoded.{readingBy, decodedBy, decodedOf}
-use Rattle.classes.proofs.Find.{every, every-found}
+use Rattle.classes.specs.Decoded.{decodedOf}
+use Rattle.classes.proofs.Tests.{and-l, and-r, either}
+use Rattle.classes.proofs.Find.{every, each-reading}
+use Rattle.classes.proofs.Operands.{operandsIn, known, known-most, in-use}
 use Rattle.names.specs.Names.{letters}
-use Rattle.text.specs.Text.{decimalOf}
-use Rattle.text.proofs.Lengths.{numeral-most, address-most}
+use Rattle.text.proofs.Lengths.{numeral-most, decimal-most, address-most}
 use Rattle.line.specs.Line.{textOf, opText, listed, lineOf}
 use Rattle.line.proofs.Names.{register-most, mnemonic-most}
 
 -- ── an operand ──
-
-decimal-most : (z : ℤ) → length (decimalOf z) ≤ 21
-unfolding decimalOf
-decimal-most (pos n) = omega (arith, numeral-most 10 n)
-decimal-most (negsuc n) = omega (arith, numeral-most 10 (suc n))
 
 -- the bytes that an operand has at most
 abbrev widest : Op → ℕ
@@ -56,22 +48,10 @@ abbrev total : List Op → ℕ
 total [] = 0
 total (o ∷ os) = 2 + widest o + total os
 
-abbrev opsOf : List Operand → List Op
-opsOf [] = []
-opsOf (o ∷ os) = o .op ∷ opsOf os
-
-listed-most : (b : List ℕ) (l : List Operand) → length b ≤ 2 → length (listed b l) ≤ total (opsOf l)
+listed-most : (b : List ℕ) (os : List Op) → length b ≤ 2 → length (listed b (map operand os)) ≤ total os
 unfolding listed textOf letters
 listed-most b [] h = omega arith
-listed-most b (o ∷ l) h = simp length-append (omega (arith, op-most (o .op), listed-most (textOf ", ") l (omega arith)))
-
-used-most : (os : List Op) → total (opsOf (take (length os) (slots os))) ≤ total os
-used-most [] = omega arith
-used-most (a ∷ []) = omega arith
-used-most (a ∷ b ∷ []) = omega arith
-used-most (a ∷ b ∷ c ∷ []) = omega arith
-used-most (a ∷ b ∷ c ∷ d ∷ []) = omega arith
-used-most (a ∷ b ∷ c ∷ d ∷ e ∷ os) = omega arith
+listed-most b (o ∷ os) h = simp length-append (omega (arith, op-most o, listed-most (textOf ", ") os (omega arith)))
 
 -- ── the operands of a form ──
 
@@ -111,19 +91,16 @@ unfolding outs width
 outs-most end va f = omega arith
 outs-most (c ▸ φ) va f = omega (arith, out-most c va f, outs-most φ va f)
 outs-most posSize va f = omega arith
-outs-most link va f = go (eqb (f rd) 31)
-  where
-    go : (b : Bool) → total (cond b (Reg (f rs) ∷ []) (Reg (f rd) ∷ Reg (f rs) ∷ [])) ≤ 12
-    go true = omega arith
-    go false = omega arith
+outs-most link va f =
+    either (λ os. total os ≤ 12) (eqb (f rd) 31) {x = Reg (f rs) ∷ []} {y = Reg (f rd) ∷ Reg (f rs) ∷ []} (omega arith) (omega arith)
 
 -- ── the line ──
 
 narrow : Row → Bool
-narrow r = leb (width (r .form)) 111
+narrow r = known r && leb (width (r .form)) 111
 
 all-narrow : (wide : Bool) → T (every narrow (table wide))
-unfolding every narrow width cost table common byWidth
+unfolding every narrow known operandsIn width cost table common byWidth
 all-narrow true = tt
 all-narrow false = tt
 
@@ -131,8 +108,9 @@ row-short : (r : Row) (va : ℕ) (f : Fields) → T (narrow r) → length (lineO
 unfolding narrow lineOf meaning reading textOf letters
 row-short r va f t =
     let os = outs (r .form) va f in
-    simp length-append
-    (omega (arith, mnemonic-most (r .kind), listed-most (textOf " ") (take (length os) (slots os)) (omega arith), used-most os, outs-most (r .form) va f, leb→le (width (r .form)) 111 t))
+    rw (in-use operand os (known-most r (and-l (known r) _ t) va f))
+    (simp length-append
+    (omega (arith, mnemonic-most (r .kind), listed-most (textOf " ") os (omega arith), outs-most (r .form) va f, leb→le (width (r .form)) 111 (and-r (known r) _ t))))
 
 pub blank-short : length (lineOf blankInsn) ≤ 120
 unfolding lineOf listed
@@ -140,9 +118,4 @@ blank-short = simp length-append (omega (arith, mnemonic-most 0))
 
 -- the line of every word has at most 120 bytes
 pub short : (w va : ℕ) (wide : Bool) → length (lineOf (decodedOf w va wide .insn)) ≤ 120
-unfolding decodedOf decodedBy
-short w va wide = go (find (table wide) (fieldsOf w)) refl
-  where
-    go : (o : Option Row) → find (table wide) (fieldsOf w) ≡ o → length (lineOf (readingBy o va (fieldsOf w))) ≤ 120
-    go none e = blank-short
-    go (some r) e = row-short r va (fieldsOf w) (every-found narrow (table wide) (all-narrow wide) (fieldsOf w) r e)
+short w va wide = each-reading (λ i. length (lineOf i) ≤ 120) narrow blank-short w va wide (all-narrow wide) (λ r. row-short r va (fieldsOf w))

@@ -1,30 +1,25 @@
 -- The reading of every word of a body has a line, and its text is short.
 -- Assumes nothing.
-use Prim.Native.Nat.{ℕ, _+_, _*_, _≤_}
-use mathlib.Core.Path.{_≡_, refl}
+use Prim.Native.Nat.{ℕ, _*_, _≤_}
 use mathlib.Core.Bool.{Bool, true, false, cond}
 use mathlib.Core.List.{List, [], _∷_, _++_}
 use native.Mathlib.Omega.{arith}
 use lib.ListN.{length, drop, length-append}
-use Rattle.reading.specs.Reading.{blankInsn, refusedOf}
+use Rattle.reading.specs.Reading.{refusedOf}
 use Rattle.decode.specs.Bytes.{wordIn, decodedIn}
 use Rattle.names.specs.Names.{letters}
 use Rattle.text.specs.Text.{numeralOf}
 use Rattle.text.proofs.Lengths.{numeral-most}
-use Rattle.line.specs.Line.{textOf, lineOf, printable, allRegistered}
-use Rattle.line.proofs.Readable.{readable}
+use Rattle.line.specs.Line.{textOf, lineOf}
+use Rattle.line.proofs.Readable.{blank-printable, readable}
 use Rattle.listing.specs.declared.View.{View}
 use Rattle.listing.specs.Body.{addressAt, decodedAt, isRefused}
 use Rattle.listing.specs.Page.{answerText}
 use Rattle.listing.specs.Private.Steps.{Answers}
 use Rattle.line.proofs.Short.{blank-short, short}
 
-blank-lined : printable blankInsn ≡ true
-unfolding printable allRegistered
-blank-lined = refl
-
 blank : Answers (refusedOf 1)
-blank = record { lined = blank-lined; short = blank-short }
+blank = record { lined = blank-printable; short = blank-short }
 
 pub answers : (v : View) (body : List ℕ) (n : ℕ) → Answers (decodedAt v body n)
 unfolding decodedAt

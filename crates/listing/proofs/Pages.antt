@@ -8,10 +8,10 @@ use native.Mathlib.Numerals.{add-one}
 use native.Mathlib.Decide.{decLe}
 use native.Mathlib.Omega.{arith}
 use borrow.Author.Tests.{le-leb, lt-leb}
-use lib.ListN.{length, length-append, length-take, length-drop, take-append-drop}
+use lib.ListN.{length, length-append, length-drop, take-append-drop}
 use borrow.Rule.Slice.PartMut.{putMid, midOf, put-same}
 use Rattle.buffers.specs.Bytes.{over, overAt}
-use Rattle.buffers.proofs.Laws.{tail-part, lent-over, then-at}
+use Rattle.buffers.proofs.Laws.{tail-part, lent-over, overAt-length, then-at}
 use Rattle.listing.specs.Page.{linesFrom, fitting}
 use Rattle.listing.specs.Private.Steps.{whole}
 
@@ -37,9 +37,6 @@ module _ (line : ℕ → List ℕ) (k n room : ℕ) where
 pub no-lines : (line : ℕ → List ℕ) (m n : ℕ) → m ≡ 0 → linesFrom line m n ≡ []
 unfolding linesFrom
 no-lines line m n e = rw e
-
-over-size : (at : ℕ) (l d : List ℕ) → at + length l ≤ length d → length (overAt at l d) ≡ length d
-over-size at l d h = simp (length-append, length-take, length-drop) (omega arith)
 
 pub over-nothing : (at : ℕ) (d : List ℕ) → overAt at [] d ≡ d
 over-nothing at d = simp (append-nil, add-zero, take-append-drop)
@@ -130,7 +127,7 @@ module _ (line : ℕ → List ℕ) (n place total : ℕ) (out₀ : List ℕ) whe
             high = omega arith;
             after = simp length-append (omega (arith, t .after));
             fits = omega (arith, t .fits);
-            size = ap length b ∙ over-size place (t .done ++ line k) out₀ (simp length-append (omega (arith, t .after, t .fits)));
+            size = ap length b ∙ overAt-length place (t .done ++ line k) out₀ (simp length-append (omega (arith, t .after, t .fits)));
             bytes = b;
             lines =
                 append-assoc (t .done) (line k) (run line (total - (k + 1)) (k + 1) (length out₀ - (at + m)))

@@ -4,7 +4,7 @@ use Prim.Native.Nat.{ℕ, _+_, _-_, _≤_, _<_}
 use mathlib.Core.Path.{_≡_, refl, sym, ap, _∙_}
 use mathlib.Core.List.{List, [], _∷_, _++_, append-assoc}
 use native.Mathlib.Omega.{arith}
-use borrow.Author.Tests.{eq-eqb, ne-eqb, le-leb}
+use borrow.Author.Tests.{eq-eqb, ne-eqb}
 use lib.ListN.{length, length-append}
 use borrow.Rule.Slice.PartMut.{putMid, midOf}
 use Rattle.reading.specs.declared.Decoded.{Decoded}
@@ -14,7 +14,8 @@ use Rattle.names.specs.Names.{letter, letters}
 use Rattle.text.specs.Text.{numeralOf, hexOf}
 use Rattle.text.specs.Private.Writes.{Wrote}
 use Rattle.text.proofs.Lengths.{hex-long}
-use Rattle.line.specs.Line.{textOf, lineOf, printNumber, printed}
+use Rattle.line.specs.Line.{textOf, lineOf, printed}
+use Rattle.line.proofs.Answers.{fits}
 use Rattle.listing.specs.declared.View.{View}
 use Rattle.listing.specs.Body.{addressAt, wordAt, decodedAt}
 use Rattle.listing.specs.Page.{answerText, wordLine}
@@ -42,10 +43,7 @@ text-accepted d z = rw (eq-eqb (d .number) 0 z)
 
 -- a line that has room is printed
 pub printed-whole : (d : Decoded) (room : ℕ) → Answers d → 120 ≤ room → printed (d .insn) room ≡ lineOf (d .insn)
-unfolding printed printNumber
-printed-whole d room a h =
-    let s : length (lineOf (d .insn)) ≤ room = omega (arith, a .short) in
-    rw (a .lined, le-leb (length (lineOf (d .insn))) room s)
+printed-whole d room a h = fits (d .insn) room (a .lined) (omega (arith, a .short)) .bytes
 
 -- ── the columns ──
 

@@ -3,7 +3,7 @@
 -- Assumes nothing.
 use Prim.Native.Nat.{ℕ, _<_}
 use mathlib.Core.Path.{_≡_, refl, _∙_, ap, ap₂, fun-ext}
-use mathlib.Core.Bool.{Bool, true, false, not, cond, _&&_}
+use mathlib.Core.Bool.{Bool, true, false, not, cond, _&&_, and-true, and-assoc}
 use mathlib.Core.List.{List, [], _∷_}
 use mathlib.Core.Option.{none, some}
 use native.Mathlib.Omega.{arith}
@@ -11,7 +11,7 @@ use lib.Dec.{eqb}
 use Rattle.word.specs.Word.{Field, op, rs, rt, rd, sa, fn, Fields, Fit, room}
 use Rattle.classes.specs.Meaning.{six}
 use Rattle.classes.specs.Refusals.{meets}
-use Rattle.classes.proofs.Tests.{zip, and-true}
+use Rattle.classes.proofs.Tests.{zip}
 use Rattle.classes.proofs.Walk.{Guard, passes, passing}
 use Rattle.classes.proofs.Cover.{Box, within, in-order, both, passes-both, six-same, meet, within-meet}
 use Rattle.classes.proofs.Boxes.{bit, testsBox, within-tests}
@@ -51,13 +51,7 @@ four p = p rs-is-rd && (p rt-is-rd && (p inside && p ordered))
 
 -- six tests and what follows them
 rest : (a b c d e g r : Bool) → a && (b && (c && (d && (e && (g && r))))) ≡ (a && (b && (c && (d && (e && (g && true)))))) && r
-rest false b c d e g r = refl
-rest true false c d e g r = refl
-rest true true false d e g r = refl
-rest true true true false e g r = refl
-rest true true true true false g r = refl
-rest true true true true true false r = refl
-rest true true true true true true r = refl
+rest a b c d e g r = simp and-assoc
 
 -- to pass on all axes is to pass at each field and each relation
 pub by-parts : {A : Type 0} (ask : A → Axis → Guard) (a : A) (f : Fields) →

@@ -2,14 +2,14 @@
 -- Assumes nothing.
 use Prim.Native.Nat.{ℕ}
 use mathlib.Core.Path.{_≡_, refl, sym, _∙_, ap, ap₂, subst}
-use mathlib.Core.Bool.{Bool, true, false, not, cond, _&&_, _||_}
+use mathlib.Core.Bool.{Bool, true, false, not, cond, _&&_, _||_, and-true, or-assoc, or-not-self}
 use mathlib.Core.List.{List, [], _∷_, _++_, map}
 use mathlib.Core.Option.{Option, some}
 use lib.Dec.{T}
 use lib.Text.{eqt}
 use Rattle.word.specs.Word.{Field, sameField, Fields}
 use Rattle.classes.specs.Refusals.{Test, _∈_, _∉_, elem, holds, meets, only}
-use Rattle.classes.proofs.Tests.{and-l, and-r, and-true, same-field}
+use Rattle.classes.proofs.Tests.{and-l, and-r, same-field}
 use Rattle.manual.specs.Page.{Format, Page, defines, Line, has}
 use Rattle.manual.specs.Pages.{pages}
 use Rattle.manual.specs.Aliases.{Alias, aliases, aliasLines, formatLine, linesOf}
@@ -51,11 +51,7 @@ opposed-met (x ∈ vs) (y ∈ us) f h = absurd h
 opposed-met (x ∈ vs) (y ∉ us) f h =
     ap₂ (λ (z : Field) (l : List ℕ). elem (f x) vs || not (elem (f z) l)) (sym (same-field x y (and-l (sameField x y) _ h)))
     (sym (same-numbers vs us (and-r (sameField x y) _ h)))
-    ∙ either (elem (f x) vs)
-  where
-    either : (b : Bool) → (b || not b) ≡ true
-    either true = refl
-    either false = refl
+    ∙ or-not-self (elem (f x) vs)
 opposed-met (x ∉ vs) (y ∈ us) f h = absurd h
 opposed-met (x ∉ vs) (y ∉ us) f h = absurd h
 
@@ -97,17 +93,13 @@ found-first : (b : Bool) (ℓ : Line) (o : Option Line) → found (cond b (some 
 found-first true ℓ o = refl
 found-first false ℓ o = refl
 
-or-assoc : (a b c : Bool) → (a || (b || c)) ≡ ((a || b) || c)
-or-assoc true b c = refl
-or-assoc false b c = refl
-
 found-append : (ls ks : List Line) (f : Fields) → found (firstLine (ls ++ ks) f) ≡ (found (firstLine ls f) || found (firstLine ks f))
 unfolding firstLine
 found-append [] ks f = refl
 found-append (ℓ ∷ ls) ks f =
     found-first (has ℓ f) ℓ (firstLine (ls ++ ks) f)
     ∙ (ap (λ (b : Bool). has ℓ f || b) (found-append ls ks f)
-    ∙ (or-assoc (has ℓ f) (found (firstLine ls f)) (found (firstLine ks f))
+    ∙ (sym (or-assoc (has ℓ f) (found (firstLine ls f)) (found (firstLine ks f)))
     ∙ ap (λ (b : Bool). b || found (firstLine ks f)) (sym (found-first (has ℓ f) ℓ (firstLine ls f)))))
 
 -- an alias has only words of its page
@@ -158,7 +150,7 @@ lines-found [] f t = refl
 lines-found (p ∷ ps) f t =
     found-append (aliasLines aliases p) (map (formatLine p) (p .formats) ++ linesOf ps) f
     ∙ (ap (λ (b : Bool). found (firstLine (aliasLines aliases p) f) || b) (rest (lines-found ps f (and-r (closed (p .formats)) (allClosed ps) t)))
-    ∙ (or-assoc (found (firstLine (aliasLines aliases p) f)) (defines p f) (anyDefines ps f) ∙ ap (λ (b : Bool). b || anyDefines ps f) (alias-found aliases p f)))
+    ∙ (sym (or-assoc (found (firstLine (aliasLines aliases p) f)) (defines p f) (anyDefines ps f)) ∙ ap (λ (b : Bool). b || anyDefines ps f) (alias-found aliases p f)))
   where
     formats : found (firstLine (map (formatLine p) (p .formats)) f) ≡ defines p f
     formats =

@@ -12,31 +12,25 @@ use Rattle.word.specs.Word.{Fields, fieldsOf}
 use Rattle.word.proofs.Fields.{fields-fit}
 use Rattle.reading.specs.declared.Decoded.{Decoded}
 use Rattle.classes.specs.Row.{Row}
-use Rattle.classes.specs.Meaning.{takes, find}
-use Rattle.classes.specs.Table.{common, byWidth, table}
+use Rattle.classes.specs.Meaning.{find}
+use Rattle.classes.specs.Table.{table}
 use Rattle.classes.specs.Refusals.{elem, meets, refusal, refusals}
 use Rattle.classes.specs.Decoded.{decodedBy, decodedOf}
-use Rattle.classes.specs.Theorems.{taking}
-use Rattle.classes.proofs.Tests.{and-l, and-r}
-use Rattle.classes.proofs.Boxes.{bit}
-use Rattle.classes.proofs.Accepts.{acceptance, accepted}
-use Rattle.classes.proofs.Find.{every, every-found}
+use Rattle.classes.proofs.Tests.{and-l, and-r, distinct}
+use Rattle.classes.proofs.Accepts.{none-found, acceptance, accepted}
+use Rattle.classes.proofs.Find.{every-found}
+use Rattle.classes.proofs.Operands.{known, known-table}
 use Rattle.manual.specs.Page.{defines, Line, has}
 use Rattle.manual.specs.Pages.{pages}
 use Rattle.manual.specs.Aliases.{linesOf}
 use Rattle.manual.specs.Exceptions.{Difference, covers, refusedWords, otherReadings, reservedWords, differences}
 use Rattle.manual.specs.Agreement.{book, firstLine, lineFor, AgreeBy, Agree, covering, covered, Answered, Each, Manual}
 use Rattle.manual.proofs.Lines.{lined}
-use Rattle.manual.proofs.Verdict.{Part, fits, atMost, matches-reads, clashes, clashes-reads, readBy, refusedBy, read-answered}
+use Rattle.manual.proofs.Verdict.{Part, matches-reads, clashes, clashes-reads, readBy, refusedBy, read-answered}
 use Rattle.manual.proofs.Verdict.{refused-answered, each, verdict, shownBy, together}
 use Rattle.manual.proofs.Left.{partsOf, leftParts, present, parts-left, parts-each}
 use Rattle.manual.proofs.Computed.{sound-at}
 use Rattle.manual.proofs.Tables.{tested, tested-table}
-
-fits-table : (wide : Bool) → T (every fits (table wide))
-unfolding every atMost table common byWidth
-fits-table true = tt
-fits-table false = tt
 
 -- the line that is found has the word
 line-has : (ls : List Line) (f : Fields) (ℓ : Line) → firstLine ls f ≡ some ℓ → T (has ℓ f)
@@ -52,16 +46,6 @@ line-when : (ℓ : Line) (f : Fields) → T (has ℓ f) → T (meets (ℓ .when)
 unfolding has
 line-when ℓ f t = and-r (defines (ℓ .page) f) (meets (ℓ .when) f) t
 
--- no row is found: none takes the word
-none-found : (ts : List Row) (f : Fields) → find ts f ≡ none → taking ts f ≡ 0
-unfolding find taking
-none-found [] f e = refl
-none-found (r ∷ ts) f e = go (takes r f) e (none-found ts f)
-  where
-    go : (b : Bool) → cond b (some r) (find ts f) ≡ none → (find ts f ≡ none → taking ts f ≡ 0) → bit b + taking ts f ≡ 0
-    go true d rec = absurd (Option·none-ne-some r (sym d))
-    go false d rec = omega (arith, rec d)
-
 each-map : (P Q : Difference → Type 0) → ((d : Difference) → P d → Q d) → (ds : List Difference) → Each P ds → Each Q ds
 each-map P Q h [] e = tt
 each-map P Q h (d ∷ ds) e = (h d (e .0), each-map P Q h ds (e .1))
@@ -72,10 +56,6 @@ each-map P Q h (d ∷ ds) e = (h d (e .0), each-map P Q h ds (e .1))
 unfoldable pub keys : List Difference → List ℕ
 keys [] = []
 keys (d ∷ ds) = d .example .word ∷ keys ds
-
-unfoldable pub distinct : List ℕ → Bool
-distinct [] = true
-distinct (k ∷ l) = not (elem k l) && distinct l
 
 module _ (wide : Bool) (f : Fields) (k : ℕ) where
   abbrev Keyed : Difference → Type 0
@@ -121,8 +101,8 @@ module _ (w va : ℕ) (wide : Bool) where
   unread : find (table wide) f ≡ none → ¬ ((decodedOf w va wide) .number ≡ 0)
   unread e z = absurd (omega (arith, acceptance w va wide .accepted z, none-found (table wide) f e))
 
-  row-fits : (r : Row) → find (table wide) f ≡ some r → T (fits r)
-  row-fits r e = every-found fits (table wide) (fits-table wide) f r e
+  row-known : (r : Row) → find (table wide) f ≡ some r → T (known r)
+  row-known r e = every-found known (table wide) (known-table wide) f r e
 
   found : (ℓ : Line) → lineFor wide f ≡ some ℓ → T (has ℓ f)
   unfolding lineFor
@@ -146,7 +126,7 @@ module _ (w va : ℕ) (wide : Bool) where
       go (some ℓ) a none b [] h t = absurd t
       go (some ℓ) a (some r) b [] h t =
           subst (AgreeBy (some ℓ) va f) (sym (accepted w va wide r b))
-          (refl, matches-reads ℓ r (row-fits r b) t va f (line-when ℓ f (found ℓ a)))
+          (refl, matches-reads ℓ r (row-known r b) t va f (line-when ℓ f (found ℓ a)))
       go o a q b (d ∷ l) h t = absurd (subst T h tt)
 
   differ : covered wide f ≡ true → ¬ Agree w va wide
@@ -159,7 +139,7 @@ module _ (w va : ℕ) (wide : Bool) where
       go none (some r) b (d ∷ l) h t = λ n. n (ap (λ (e : Decoded). e .number) (accepted w va wide r b))
       go (some ℓ) none b (d ∷ l) h t = λ a. unread b (a .0)
       go (some ℓ) (some r) b (d ∷ l) h t =
-          λ a. clashes-reads ℓ r (row-fits r b) (and-l (clashes ℓ r) _ t) va f (subst (AgreeBy (some ℓ) va f) (accepted w va wide r b) a .1)
+          λ a. clashes-reads ℓ r (row-known r b) (and-l (clashes ℓ r) _ t) va f (subst (AgreeBy (some ℓ) va f) (accepted w va wide r b) a .1)
       go o q b [] h t = absurd (subst T (sym h) tt)
 
   -- what the exceptions that are left say of the answer
@@ -171,7 +151,7 @@ module _ (w va : ℕ) (wide : Bool) where
           Each (λ d. T (covers d wide f) → Answered (d .answer) va f (decodedOf w va wide)) differences
       from-row r b t =
           each-map _ _
-          (λ d h c. subst (Answered (d .answer) va f) (sym (accepted w va wide r b)) (read-answered r (d .answer) (row-fits r b) (h c) va f))
+          (λ d h c. subst (Answered (d .answer) va f) (sym (accepted w va wide r b)) (read-answered r (d .answer) (row-known r b) (h c) va f))
           differences (parts-each (readBy r) differences wide f t)
 
       from-number : T (each (refusedBy (refusal refusals f)) ps) → Each (λ d. T (covers d wide f) → Answered (d .answer) va f (decodedOf w va wide)) differences

@@ -1,25 +1,25 @@
 -- What the walk tests at its end: the line of the manual, the row, the number of a refusal and the exceptions that are left for a word.
 -- And what a passed test says of the word.
 -- Assumes nothing.
-use Prim.Native.Nat.{ℕ, zero, suc}
+use Prim.Native.Nat.{ℕ}
 use Prim.Native.String.{String}
 use mathlib.Core.Path.{_≡_, refl, sym, _∙_, ap, ap₂, subst}
-use mathlib.Core.Bool.{Bool, true, false, not, cond, _&&_, _||_}
-use mathlib.Core.List.{List, [], _∷_, map}
+use mathlib.Core.Bool.{Bool, true, false, not, _&&_, _||_}
+use mathlib.Core.List.{List, [], _∷_, map, map-id}
 use mathlib.Core.Option.{Option, none, some, Option·none-ne-some, Option·some-injective}
-use mathlib.Core.Logic.{inl, inr}
-use lib.Dec.{T, eqb, eqb→eq}
+use mathlib.Core.Logic.{inl, inr, ⊎-elim}
+use lib.Dec.{T, T-not, eqb, eqb→eq}
 use lib.Text.{eqt, eqt→eq, eqt-refl}
-use Rattle.word.specs.Word.{Fields, rs, rd}
+use Rattle.word.specs.Word.{Fields}
 use Rattle.reading.specs.declared.Op.{Op}
 use Rattle.reading.specs.declared.Op.the-variants.{Reg, FReg, Imm, Mem, Addr, Cop0}
 use Rattle.reading.specs.Names.{nameOf}
-use Rattle.classes.specs.Row.{Code, reg, freg, cop0, num, size, s16, u16, mem, br, jmp, Form, end, _▸_, posSize, link}
-use Rattle.classes.specs.Row.{Control, Change, Row}
+use Rattle.classes.specs.Row.{Code, reg, freg, cop0, num, size, s16, u16, mem, br, jmp, Form, end, _▸_, posSize, link, Row}
 use Rattle.classes.specs.Meaning.{out, outs, targetIn, reading, meaning}
 use Rattle.classes.specs.Refusals.{elem, meets}
 use Rattle.classes.specs.Decoded.{acceptedAs}
-use Rattle.classes.proofs.Tests.{and-l, and-r, not-e, sameForm, same-form}
+use Rattle.classes.proofs.Tests.{and-l, and-r, or-e, sameForm, same-form}
+use Rattle.classes.proofs.Operands.{known, known-most, in-use}
 use Rattle.manual.specs.Page.{Arg, gpr, fpr, fcr, hwr, cp0, cp2, unsigned, signed16, plus, span, offset-base, index-base, pc-relative}
 use Rattle.manual.specs.Page.{in-region}
 use Rattle.manual.specs.Page.{Name, Meant, GPR, FPR, FCR, HWR, CP0, CP2, number, memory, indexed, address, meantBy, value, Rules, Line, meant}
@@ -31,54 +31,9 @@ use Rattle.manual.proofs.Slots.{sameOperands, operands-meant}
 
 -- ── the operands in use ──
 
-unfoldable pub shorter : ℕ → List Op → Bool
-shorter n [] = true
-shorter zero (o ∷ os) = false
-shorter (suc n) (o ∷ os) = shorter n os
-
-unfoldable pub atMost : ℕ → Form → Bool
-atMost n end = true
-atMost zero (c ▸ φ) = false
-atMost (suc n) (c ▸ φ) = atMost n φ
-atMost zero posSize = false
-atMost (suc zero) posSize = false
-atMost (suc (suc n)) posSize = true
-atMost zero link = false
-atMost (suc zero) link = false
-atMost (suc (suc n)) link = true
-
--- a row has at most four operands
-abbrev pub fits : Row → Bool
-fits r = atMost 4 (r .form)
-
-outs-shorter : (n : ℕ) (φ : Form) (va : ℕ) (f : Fields) → T (atMost n φ) → T (shorter n (outs φ va f))
-unfolding shorter atMost outs
-outs-shorter n end va f t = tt
-outs-shorter zero (c ▸ φ) va f t = absurd t
-outs-shorter (suc n) (c ▸ φ) va f t = outs-shorter n φ va f t
-outs-shorter zero posSize va f t = absurd t
-outs-shorter (suc zero) posSize va f t = absurd t
-outs-shorter (suc (suc n)) posSize va f t = tt
-outs-shorter zero link va f t = absurd t
-outs-shorter (suc zero) link va f t = absurd t
-outs-shorter (suc (suc n)) link va f t = go (eqb (f rd) 31)
-  where
-    go : (b : Bool) → T (shorter (suc (suc n)) (cond b (Reg (f rs) ∷ []) (Reg (f rd) ∷ Reg (f rs) ∷ [])))
-    go true = tt
-    go false = tt
-
-used-reading : (k : ℕ) (c : Control) (e : Change) (os : List Op) → T (shorter 4 os) → used (reading k c e os) ≡ os
-unfolding shorter reading
-used-reading k c e [] t = refl
-used-reading k c e (o ∷ []) t = refl
-used-reading k c e (o ∷ p ∷ []) t = refl
-used-reading k c e (o ∷ p ∷ q ∷ []) t = refl
-used-reading k c e (o ∷ p ∷ q ∷ r ∷ []) t = refl
-used-reading k c e (o ∷ p ∷ q ∷ r ∷ s ∷ os) t = absurd t
-
-pub used-meaning : (r : Row) (va : ℕ) (f : Fields) → T (fits r) → used (meaning r va f) ≡ outs (r .form) va f
-unfolding meaning
-used-meaning r va f t = used-reading (r .kind) (r .control) (r .change) (outs (r .form) va f) (outs-shorter 4 (r .form) va f t)
+pub used-meaning : (r : Row) (va : ℕ) (f : Fields) → T (known r) → used (meaning r va f) ≡ outs (r .form) va f
+unfolding meaning reading
+used-meaning r va f t = in-use (λ o. o) (outs (r .form) va f) (known-most r t va f) ∙ map-id (outs (r .form) va f)
 
 target-among : (os : List Op) → targetIn os ≡ targetAmong (map shows os)
 unfolding targetIn targetAmong
@@ -95,7 +50,7 @@ target-among (Cop0 n ∷ os) = target-among os
 unfoldable pub matches : Line → Row → Bool
 matches ℓ r = eqt (nameOf (r .kind)) (ℓ .name) && (sameOperands (ℓ .page) (ℓ .when) (ℓ .args) (r .form) && whole ℓ)
 
-pub matches-reads : (ℓ : Line) (r : Row) → T (fits r) → T (matches ℓ r) → (va : ℕ) (f : Fields) → T (meets (ℓ .when) f) → Reads ℓ va f (meaning r va f)
+pub matches-reads : (ℓ : Line) (r : Row) → T (known r) → T (matches ℓ r) → (va : ℕ) (f : Fields) → T (meets (ℓ .when) f) → Reads ℓ va f (meaning r va f)
 unfolding matches meaning reading meant
 matches-reads ℓ r s t va f w =
     record {
@@ -220,15 +175,12 @@ otherSorts k (some l) = not (sameNumbers k l)
 unfoldable pub clashes : Line → Row → Bool
 clashes ℓ r = not (eqt (nameOf (r .kind)) (ℓ .name)) || (not (whole ℓ) || otherSorts (map argSort (ℓ .args)) (formSorts (r .form)))
 
-or-split : (a b : Bool) → T (a || b) → (P : Type 0) → (T a → P) → (T b → P) → P
-or-split true b t P l r = l tt
-or-split false b t P l r = r t
-
-pub clashes-reads : (ℓ : Line) (r : Row) → T (fits r) → T (clashes ℓ r) → (va : ℕ) (f : Fields) → ¬ Reads ℓ va f (meaning r va f)
+pub clashes-reads : (ℓ : Line) (r : Row) → T (known r) → T (clashes ℓ r) → (va : ℕ) (f : Fields) → ¬ Reads ℓ va f (meaning r va f)
 unfolding clashes meaning reading meant
 clashes-reads ℓ r s t va f reads-it =
-    or-split (not (eqt (nameOf (r .kind)) (ℓ .name))) (not (whole ℓ) || other) t ⊥ (λ n. not-e (eqt (nameOf (r .kind)) (ℓ .name)) n names)
-    (λ u. or-split (not (whole ℓ)) other u ⊥ (λ n. not-e (whole ℓ) n (reads-it .whole)) (λ o. sorts (formSorts (r .form)) refl o))
+    ⊎-elim (λ n. T-not (eqt (nameOf (r .kind)) (ℓ .name)) n names)
+    (λ u. ⊎-elim (λ n. T-not (whole ℓ) n (reads-it .whole)) (λ o. sorts (formSorts (r .form)) refl o) (or-e (not (whole ℓ)) other u))
+    (or-e (not (eqt (nameOf (r .kind)) (ℓ .name))) (not (whole ℓ) || other) t)
   where
     other : Bool
     other = otherSorts (map argSort (ℓ .args)) (formSorts (r .form))
@@ -244,7 +196,7 @@ clashes-reads ℓ r s t va f reads-it =
     sorts : (o : Option (List ℕ)) → formSorts (r .form) ≡ o → T (otherSorts (map argSort (ℓ .args)) o) → ⊥
     sorts none e n = n
     sorts (some l) e n =
-        not-e (sameNumbers (map argSort (ℓ .args)) l) n
+        T-not (sameNumbers (map argSort (ℓ .args)) l) n
         (subst (λ (k : List ℕ). T (sameNumbers (map argSort (ℓ .args)) k)) (meant-sorts ∙ form-sorts (r .form) l e va f) (numbers-same (map argSort (ℓ .args))))
 
 -- ── what an exception says of a row, and of a number ──
@@ -261,7 +213,7 @@ unfoldable pub refusedAs : ℕ → Answer → Bool
 refusedAs n (refused k) = eqb n k
 refusedAs n (reads ss) = false
 
-sorted-one : (r : Row) (va : ℕ) (f : Fields) → T (fits r) → (ss : List Sort) → T (sorted r ss) → OneOf ss va f (meaning r va f)
+sorted-one : (r : Row) (va : ℕ) (f : Fields) → T (known r) → (ss : List Sort) → T (sorted r ss) → OneOf ss va f (meaning r va f)
 unfolding sorted meaning reading
 sorted-one r va f h [] t = absurd t
 sorted-one r va f h (s ∷ ss) t = go (elem (r .kind) (s .kinds) && sameForm (r .form) (s .form)) refl t (sorted-one r va f h ss)
@@ -277,7 +229,7 @@ sorted-one r va f h (s ∷ ss) t = go (elem (r .kind) (s .kinds) && sameForm (r 
     go true e u rec = inl (here (subst T (sym e) tt))
     go false e u rec = inr (rec u)
 
-pub read-answered : (r : Row) (a : Answer) → T (fits r) → T (readAs r a) → (va : ℕ) (f : Fields) → Answered a va f (acceptedAs (meaning r va f))
+pub read-answered : (r : Row) (a : Answer) → T (known r) → T (readAs r a) → (va : ℕ) (f : Fields) → Answered a va f (acceptedAs (meaning r va f))
 unfolding readAs
 read-answered r (refused n) h t va f = absurd t
 read-answered r (reads ss) h t va f = (refl, sorted-one r va f h ss t)

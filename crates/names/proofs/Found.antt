@@ -3,18 +3,18 @@
 use Prim.Native.Nat.{ℕ, zero, suc, _+_, _≤_, _<_}
 use Prim.Native.String.{String}
 use mathlib.Core.Path.{_≡_, refl, sym, _∙_, ap, subst}
-use mathlib.Core.Bool.{Bool, true, false, not, _&&_}
+use mathlib.Core.Bool.{Bool, true, false, not}
 use mathlib.Core.Logic.{_⊎_, inl, inr}
 use mathlib.Core.List.{List, [], _∷_, map}
 use native.Mathlib.Omega.{arith}
-use lib.Dec.{T, eqb}
+use lib.Dec.{T, T-not, eqb, eqb-refl}
 use lib.ListN.{length, getD, length-map, List·getD-map, List·getD-eq-default}
-use borrow.Author.Tests.{eqb-false}
 use Rattle.buffers.specs.Bytes.{num}
 use Rattle.reading.specs.Kind.{many}
 use Rattle.reading.specs.Names.{mnemonics, nameOf}
 use Rattle.names.specs.Names.{letter, letters, padded, nameBytes, same, noKind, kindIn, kindOf}
-use Rattle.classes.proofs.Tests.{and-l, and-r}
+use Rattle.classes.specs.Refusals.{elem}
+use Rattle.classes.proofs.Tests.{and-l, and-r, or-l, or-r, distinct}
 use Rattle.names.proofs.Same.{same-eq, same-self}
 
 -- ── the place of a name in a list ──
@@ -60,38 +60,29 @@ reaches (s ∷ ss) k l (suc j) h e = go (same (padded 16 s) l) refl (reaches ss 
 
 -- ── no two names are the same ──
 
-unfoldable absent : ℕ → List ℕ → Bool
-absent x [] = true
-absent x (y ∷ ys) = not (eqb x y) && absent x ys
+elem-at : (xs : List ℕ) (i : ℕ) → i < length xs → T (elem (getD xs i 0) xs)
+unfolding elem
+elem-at [] i h = absurd (omega arith)
+elem-at (y ∷ ys) zero h = or-l (eqb y y) (elem y ys) (eqb-refl y)
+elem-at (y ∷ ys) (suc i) h = or-r (eqb (getD ys i 0) y) (elem (getD ys i 0) ys) (elem-at ys i (omega arith))
 
-unfoldable distinct : List ℕ → Bool
-distinct [] = true
-distinct (x ∷ xs) = absent x xs && distinct xs
-
-absent-at : (x : ℕ) (xs : List ℕ) (i : ℕ) → T (absent x xs) → i < length xs → x ≡ getD xs i 0 → ⊥
-unfolding absent
-absent-at x [] i t h e = omega arith
-absent-at x (y ∷ ys) zero t h e = go (eqb x y) refl t
-  where
-    go : (b : Bool) → eqb x y ≡ b → T (not b && absent x ys) → ⊥
-    go true d u = u
-    go false d u = eqb-false x y d e
-absent-at x (y ∷ ys) (suc i) t h e = absent-at x ys i (and-r (not (eqb x y)) (absent x ys) t) (omega arith) e
+absent-at : (x : ℕ) (xs : List ℕ) (i : ℕ) → T (not (elem x xs)) → i < length xs → x ≡ getD xs i 0 → ⊥
+absent-at x xs i t h e = T-not (elem x xs) t (subst (λ (y : ℕ). T (elem y xs)) (sym e) (elem-at xs i h))
 
 apart : (xs : List ℕ) (i j : ℕ) → T (distinct xs) → i < length xs → j < length xs → getD xs i 0 ≡ getD xs j 0 → i ≡ j
 unfolding distinct
 apart [] i j t h k e = absurd (omega arith)
 apart (x ∷ xs) zero zero t h k e = refl
-apart (x ∷ xs) zero (suc j) t h k e = absurd (absent-at x xs j (and-l (absent x xs) (distinct xs) t) (omega arith) e)
-apart (x ∷ xs) (suc i) zero t h k e = absurd (absent-at x xs i (and-l (absent x xs) (distinct xs) t) (omega arith) (sym e))
-apart (x ∷ xs) (suc i) (suc j) t h k e = ap suc (apart xs i j (and-r (absent x xs) (distinct xs) t) (omega arith) (omega arith) e)
+apart (x ∷ xs) zero (suc j) t h k e = absurd (absent-at x xs j (and-l (not (elem x xs)) (distinct xs) t) (omega arith) e)
+apart (x ∷ xs) (suc i) zero t h k e = absurd (absent-at x xs i (and-l (not (elem x xs)) (distinct xs) t) (omega arith) (sym e))
+apart (x ∷ xs) (suc i) (suc j) t h k e = ap suc (apart xs i j (and-r (not (elem x xs)) (distinct xs) t) (omega arith) (omega arith) e)
 
 -- a name as one number
 abbrev number : String → ℕ
 number s = num (padded 16 s)
 
 all-apart : T (distinct (map number mnemonics))
-unfolding absent distinct mnemonics padded letters letter
+unfolding elem distinct mnemonics padded letters letter
 all-apart = tt
 
 names-many : length mnemonics ≡ many

@@ -1,6 +1,6 @@
 -- The tables of the source, each by a computed test: whatever list passes it serves.
 -- Assumes nothing.
-use Prim.Native.Nat.{ℕ, zero, suc, _+_, _*_, _/_, _%_, _≤_, _<_}
+use Prim.Native.Nat.{ℕ, _+_, _*_, _/_, _%_, _≤_, _<_}
 use mathlib.Core.Path.{_≡_, refl, sym, _∙_, ap, subst}
 use mathlib.Core.Bool.{Bool, true, false, _||_}
 use mathlib.Core.Logic.{_⊎_, inl, inr}
@@ -50,16 +50,6 @@ whole kind = omega arith
 -- the same for a whole kind
 pub arm-of : {l r : List ℕ} {g : ℕ} (kind : ℕ) → IsRow 16 l (kind % 4) r → kind / 4 ≡ g → T (rightNames l g) → r ≡ nameBytes kind
 arm-of kind e d t = arm e (omega arith) d t ∙ ap nameBytes (whole kind)
-
--- the last arm first, as the arm `_` knows them
-abbrev pub NoneFrom : ℕ → ℕ → ℕ → Type 0
-NoneFrom m a zero = Unit {0}
-NoneFrom m a (suc n) = NoneFrom m a n × (m ≡ a + n → ⊥)
-
--- what no arm of n from a on has stands past them
-pub past : (m a n : ℕ) → a ≤ m → NoneFrom m a n → a + n ≤ m
-past m a zero h p = omega arith
-past m a (suc n) h p = let q : a + n ≤ m = past m a n h (p .0) in let d : ¬ (m ≡ a + n) = p .1 in omega arith
 
 -- ── SHIFTS and KINDS ──
 

@@ -25,6 +25,7 @@ use Rattle.reading.specs.declared.Target.the-variants as target
 use Rattle.reading.specs.declared.Operand.{Operand}
 use Rattle.reading.specs.declared.Insn.{Insn}
 use Rattle.reading.specs.declared.Parts.{Parts}
+use Rattle.reading.specs.Reading.{unused}
 use Rattle.reading.specs.Numbers.{opParts, effectParts, targetParts, flowNumber}
 
 -- ── what a test's answer says ──
@@ -169,22 +170,17 @@ parts-one a b p q r s t u = λ i. record { number = p i; first = q i; second = r
 pub operand-one : {b : Bool} (x y : Operand) → Says b (x .op ≡ y .op) → Says b (x ≡ y)
 operand-one x y s = (λ e i. record { op = s .0 e i }, λ e. s .1 (ap (λ (z : Operand). z .op) e))
 
--- past the end of a list of operands
-abbrev pub none : Operand
-none = record { op = Reg 0 }
+-- four operands, each by its place
+pub four-slots : (xs : List Operand) → length xs ≡ 4 → getD xs 0 unused ∷ getD xs 1 unused ∷ getD xs 2 unused ∷ getD xs 3 unused ∷ [] ≡ xs
+four-slots [] h = absurd (omega arith)
+four-slots (a ∷ []) h = absurd (omega arith)
+four-slots (a ∷ b ∷ []) h = absurd (omega arith)
+four-slots (a ∷ b ∷ c ∷ []) h = absurd (omega arith)
+four-slots (a ∷ b ∷ c ∷ d ∷ []) h = refl
+four-slots (a ∷ b ∷ c ∷ d ∷ e ∷ xs) h = absurd (omega arith)
 
-pub four : (xs ys : List Operand) → length xs ≡ 4 → length ys ≡ 4 → getD xs 0 none ≡ getD ys 0 none → getD xs 1 none ≡ getD ys 1 none → getD xs 2 none ≡ getD ys 2 none → getD xs 3 none ≡ getD ys 3 none → xs ≡ ys
-four [] ys h k p q r s = absurd (omega arith)
-four (a ∷ []) ys h k p q r s = absurd (omega arith)
-four (a ∷ b ∷ []) ys h k p q r s = absurd (omega arith)
-four (a ∷ b ∷ c ∷ []) ys h k p q r s = absurd (omega arith)
-four (a ∷ b ∷ c ∷ e ∷ f ∷ xs) ys h k p q r s = absurd (omega arith)
-four (a ∷ b ∷ c ∷ e ∷ []) [] h k p q r s = absurd (omega arith)
-four (a ∷ b ∷ c ∷ e ∷ []) (a′ ∷ []) h k p q r s = absurd (omega arith)
-four (a ∷ b ∷ c ∷ e ∷ []) (a′ ∷ b′ ∷ []) h k p q r s = absurd (omega arith)
-four (a ∷ b ∷ c ∷ e ∷ []) (a′ ∷ b′ ∷ c′ ∷ []) h k p q r s = absurd (omega arith)
-four (a ∷ b ∷ c ∷ e ∷ []) (a′ ∷ b′ ∷ c′ ∷ e′ ∷ []) h k p q r s = cc
-four (a ∷ b ∷ c ∷ e ∷ []) (a′ ∷ b′ ∷ c′ ∷ e′ ∷ f′ ∷ ys) h k p q r s = absurd (omega arith)
+pub four : (xs ys : List Operand) → length xs ≡ 4 → length ys ≡ 4 → getD xs 0 unused ≡ getD ys 0 unused → getD xs 1 unused ≡ getD ys 1 unused → getD xs 2 unused ≡ getD ys 2 unused → getD xs 3 unused ≡ getD ys 3 unused → xs ≡ ys
+four xs ys h k p q r s = sym (four-slots xs h) ∙ ((λ i. p i ∷ q i ∷ r i ∷ s i ∷ []) ∙ four-slots ys k)
 
 pub insn-one : (a b : Insn) → a .mnemonic ≡ b .mnemonic → a .count ≡ b .count → a .ops ≡ b .ops → a .flow ≡ b .flow → a .target ≡ b .target → a .«delay_slot» ≡ b .«delay_slot» → a .effect ≡ b .effect → a ≡ b
 insn-one a b p q r s t u v = λ i. record { mnemonic = p i; count = q i; ops = r i; flow = s i; target = t i; «delay_slot» = u i; effect = v i }

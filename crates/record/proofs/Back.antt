@@ -1,20 +1,22 @@
 -- Each part of a reading comes back from the bytes that it was packed into.
 -- Assumes nothing.
-use Prim.Native.Nat.{ℕ, _+_, _*_, _-_, _%_, _^_, _<_}
+use Prim.Native.Nat.{ℕ, _+_, _*_, _%_, _^_, _<_}
 use mathlib.Core.Path.{_≡_, refl, sym, ap, _∙_}
 use mathlib.Core.Bool.{Bool, true, false}
 use mathlib.Core.List.{List, [], _∷_, _++_}
+use native.Mathlib.Nat.{add-zero}
 use native.Mathlib.Omega.{arith}
 use lib.Dec.{eqb, ltb}
 use lib.IntN.{ℤ, pos, negsuc}
 use lib.ListN.{length, getD}
 use lib.Seq.{take-at}
 use borrow.Author.Tests.{ltb-false}
+use mir.Syntax.{w64}
+use mir.Val.{SFits}
 use Rattle.word.specs.Numbers.{signed, modulo64}
-use Rattle.word.proofs.Signed.{twos-complement}
+use Rattle.word.proofs.Signed.{modulo-small, modulo-back}
 use Rattle.reading.specs.declared.Op.{Op}
 use Rattle.reading.specs.declared.Op.the-variants.{Reg, FReg, Imm, Mem, Addr, Cop0}
-use Rattle.reading.specs.declared.Operand.{Operand}
 use Rattle.reading.specs.declared.Flow.{Flow}
 use Rattle.reading.specs.declared.Flow.the-variants as flow
 use Rattle.reading.specs.declared.Effect.{Effect}
@@ -25,6 +27,7 @@ use Rattle.reading.specs.declared.Insn.{Insn}
 use Rattle.reading.specs.declared.Parts.{Parts}
 use Rattle.reading.specs.Reading.{operand, unused}
 use Rattle.reading.specs.Numbers.{opParts, effectParts, targetParts, valueOf, flowNumber}
+use Rattle.reading.proofs.Same.{four-slots}
 use Rattle.buffers.specs.Bytes.{le, num}
 use Rattle.buffers.proofs.Laws.{num-le}
 use Rattle.names.specs.Names.{letters, padded, nameBytes, kindOf}
@@ -35,23 +38,19 @@ use Rattle.record.specs.Theorems.{I64, Fits, Proper}
 
 -- ── values ──
 
-num-le8 : (v : ℕ) → v < 2 ^ 64 → num (le 8 v) ≡ v
-num-le8 v h = num-le 8 v h
-
 -- a signed value, beside an address that is 0
 pub value-back : (z : ℤ) → I64 z → signed 64 (num (le 8 (modulo64 z + 0))) ≡ z
-value-back (pos n) h =
-    let e : n % 2 ^ 64 + 0 ≡ n = omega (arith, h) in
-    ap (λ (v : ℕ). signed 64 (num (le 8 v))) e ∙ ap (signed 64) (num-le8 n (omega (arith, h))) ∙ twos-complement 64 refl .upward n h
-value-back (negsuc n) h =
-    let e : 2 ^ 64 - 1 - n % 2 ^ 64 + 0 ≡ 2 ^ 64 - (n + 1) = omega (arith, h) in
-    ap (λ (v : ℕ). signed 64 (num (le 8 v))) e ∙ ap (signed 64) (num-le8 (2 ^ 64 - (n + 1)) (omega arith)) ∙ twos-complement 64 refl .downward n h
+value-back z h = rw (add-zero (modulo64 z), num-le 8 (modulo64 z) (modulo-small z)) (modulo-back z (held z h))
+  where
+    held : (y : ℤ) → I64 y → SFits w64 y
+    held (pos n) k = record { sfits = k }
+    held (negsuc n) k = record { sfits = k }
 
 -- an address, beside a value that is 0
 pub address-back : (a : ℕ) → a < 2 ^ 64 → num (le 8 (modulo64 (pos 0) + a)) ≡ a
 address-back a h =
     let e : 0 % 2 ^ 64 + a ≡ a = omega arith in
-    ap (λ (v : ℕ). num (le 8 v)) e ∙ num-le8 a h
+    ap (λ (v : ℕ). num (le 8 v)) e ∙ num-le 8 a h
 
 -- ── cases by their numbers ──
 
@@ -104,14 +103,6 @@ slot-back i k q = go (ltb k (i .count)) refl
     go : (b : Bool) → ltb k (i .count) ≡ b → (let p : Parts = slotParts b o in slotIn (p .number) (p .first) (valueIn p) ≡ getD (i .ops) k unused)
     go true e = ap operand (op-back o (q .operands k))
     go false e = sym (q .rest k (ltb-false k (i .count) e))
-
-pub four-slots : (l : List Operand) → length l ≡ 4 → getD l 0 unused ∷ getD l 1 unused ∷ getD l 2 unused ∷ getD l 3 unused ∷ [] ≡ l
-four-slots [] h = absurd (omega (arith, h))
-four-slots (a ∷ []) h = absurd (omega (arith, h))
-four-slots (a ∷ b ∷ []) h = absurd (omega (arith, h))
-four-slots (a ∷ b ∷ c ∷ []) h = absurd (omega (arith, h))
-four-slots (a ∷ b ∷ c ∷ d ∷ []) h = refl
-four-slots (a ∷ b ∷ c ∷ d ∷ e ∷ l) h = absurd (omega (arith, h))
 
 -- ── the whole ──
 

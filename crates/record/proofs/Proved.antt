@@ -14,6 +14,7 @@ use Rattle.reading.specs.declared.Decoded.{Decoded}
 use Rattle.reading.specs.Kind.{many}
 use Rattle.reading.specs.Reading.{refusedOf}
 use Rattle.classes.specs.Decoded.{acceptedAs, decodedOf}
+use Rattle.classes.proofs.Accepts.{accepted-insn}
 use Rattle.names.specs.Names.{nameBytes}
 use Rattle.record.specs.Record.{size, headBytes, effectBytes, operandBytes, insnBytes, bytesBy, recordOf}
 use Rattle.record.specs.Unpacked.{insnIn, isRecord, unpacked}
@@ -65,14 +66,10 @@ forth l i e = go (ltb (length l) size) (isRecord l) refl e
     go false false p f = absurd (let z : 9 ≡ 0 = ap number f in omega (arith, z))
     go false true p f = as-bytes i ∙ ap (λ (d : Decoded). insnBytes (d .insn)) (sym f) ∙ record-bytes l p
 
--- an accepted answer is its reading
-accepted-as : (d : Decoded) → d .number ≡ 0 → d ≡ acceptedAs (d .insn)
-accepted-as d e = λ t. record { number = e t; insn = d .insn }
-
 -- what was packed is what comes back
 pub answer-back : (d : Decoded) → d .number ≡ 0 → Proper (d .insn) → (after : List ℕ) → unpacked (recordOf d ++ after) ≡ d
 answer-back d e q after =
-    ap (λ (x : Decoded). unpacked (recordOf x ++ after)) (accepted-as d e) ∙ back (d .insn) q after ∙ sym (accepted-as d e)
+    ap (λ (x : Decoded). unpacked (recordOf x ++ after)) (accepted-insn d e) ∙ back (d .insn) q after ∙ sym (accepted-insn d e)
 
 one : (w v va ua : ℕ) (wide broad : Bool) → (decodedOf w va wide) .number ≡ 0 → (decodedOf v ua broad) .number ≡ 0 → recordOf (decodedOf w va wide) ≡ recordOf (decodedOf v ua broad) → (decodedOf w va wide) .insn ≡ (decodedOf v ua broad) .insn
 one w v va ua wide broad p q e =

@@ -44,10 +44,15 @@ numeral-short : (n : ℕ) → n ≤ 2 ^ 63 → length (numeralOf 10 n) ≤ 19
 unfolding numeralOf
 numeral-short n h = simp length-append (omega (arith, last-short 18 19 (n / 10) (omega arith)))
 
-pub decimal-most : (z : ℤ) → natAbs z ≤ 2 ^ 63 → length (decimalOf z) ≤ 20
+pub decimal-most : (z : ℤ) → length (decimalOf z) ≤ 21
 unfolding decimalOf
-decimal-most (pos n) h = numeral-most 10 n
-decimal-most (negsuc n) h = omega (arith, numeral-short (suc n) h)
+decimal-most (pos n) = omega (arith, numeral-most 10 n)
+decimal-most (negsuc n) = omega (arith, numeral-most 10 (suc n))
+
+pub decimal-short : (z : ℤ) → natAbs z ≤ 2 ^ 63 → length (decimalOf z) ≤ 20
+unfolding decimalOf
+decimal-short (pos n) h = numeral-most 10 n
+decimal-short (negsuc n) h = omega (arith, numeral-short (suc n) h)
 
 pub address-most : (a : ℕ) → length (addressOf a) ≤ 22
 unfolding addressOf

@@ -1,4 +1,4 @@
--- A word and its six fields determine each other; how words compare; the immediate and the index as runs of bits.
+-- A word and its six fields determine each other; how words compare; the immediate and the index as runs of bits, and how large they are.
 -- Assumes nothing.
 use Prim.Native.Nat.{ℕ, _+_, _*_, _%_, _^_, _≤_, _<_}
 use mathlib.Core.Path.{_≡_, fun-ext}
@@ -78,5 +78,20 @@ imm-low w = omega (arith, imm-is w)
 pub index-low : (w : ℕ) → index (fieldsOf w) ≡ w % 67108864
 index-low w = omega (arith, index-is w)
 
-pub imm-small : (w : ℕ) → imm (fieldsOf w) < 65536
-imm-small w = omega (arith, imm-is w)
+-- ── how large they are ──
+
+pub field-small : (f : Fields) → Fit f → (x : Field) → f x < 64
+field-small f h op = omega (arith, h op)
+field-small f h rs = omega (arith, h rs)
+field-small f h rt = omega (arith, h rt)
+field-small f h rd = omega (arith, h rd)
+field-small f h sa = omega (arith, h sa)
+field-small f h fn = omega (arith, h fn)
+
+pub imm-small : (f : Fields) → Fit f → imm f < 65536
+unfolding imm
+imm-small f h = omega (arith, h rd, h sa, h fn)
+
+pub index-small : (f : Fields) → Fit f → index f < 67108864
+unfolding index
+index-small f h = omega (arith, h rs, h rt, h rd, h sa, h fn)

@@ -1,6 +1,7 @@
--- Signed numbers: n bits as two's complement, and multiples of an immediate, 64 bits and a size as the code works them out.
+-- Signed numbers: n bits as two's complement, and multiples of an immediate, 64 bits and a size as the code works them out; what fits
+-- 64 bits.
 -- Assumes nothing.
-use Prim.Native.Nat.{ℕ, zero, suc, _+_, _*_, _-_, _%_, _^_, _≤_, _<_}
+use Prim.Native.Nat.{ℕ, zero, suc, _+_, _*_, _-_, _/_, _%_, _^_, _≤_, _<_}
 use mathlib.Core.Path.{_≡_, refl, sym, _∙_, ap, subst}
 use mathlib.Core.Bool.{Bool, true, false, cond}
 use native.Mathlib.Nat.{lt-of-le-of-lt, mul-le-mul-left, not-suc-le-zero}
@@ -11,9 +12,9 @@ use lib.IntN.{ℤ, pos, negsuc, subℕ, negℤ, natAbs, _+ℤ_, _-ℤ_, _*ℤ_}
 use lib.Signed.{mag, ltZ, nonNeg}
 use mir.Syntax.{w64}
 use mir.Val.{SFits, toZ, ofZ}
-use mir.Facts.{toZ-ofZ}
+use mir.Facts.{toZ-ofZ, toZ-pos, toZ-neg}
 use Rattle.word.specs.Facts.{TwosComplement}
-use Rattle.word.specs.Numbers.{signed, modulo64, branchTo, sizeOf}
+use Rattle.word.specs.Numbers.{signed, modulo64, branchTo, jumpTo, upper, sizeOf}
 
 -- ── differences of numbers ──
 
@@ -52,6 +53,14 @@ low16 = signed-low 16 refl
 pub high16 : (u : ℕ) → 32768 ≤ u → u < 65536 → signed 16 u ≡ negsuc (65535 - u)
 high16 u h l = signed-high 16 refl u h l ∙ ap negsuc (omega arith)
 
+-- either way of an immediate
+pub by-sign : (P : ℤ → Type 0) (u : ℕ) → u < 65536 → (u < 32768 → P (pos u)) → (32768 ≤ u → P (negsuc (65535 - u))) → P (signed 16 u)
+by-sign P u h p q = go (ltb u 32768) refl
+  where
+    go : (b : Bool) → ltb u 32768 ≡ b → P (signed 16 u)
+    go true e = let l = ltb-true u 32768 e in rw (low16 u l) (p l)
+    go false e = let l = ltb-false u 32768 e in rw (high16 u l h) (q l)
+
 -- ── a multiple of a signed immediate ──
 
 pub neg-pos : (m : ℕ) → 0 < m → negℤ (pos m) ≡ negsuc (m - 1)
@@ -63,22 +72,14 @@ mag-neg zero = omega arith
 mag-neg (suc m) = omega arith
 
 -- an immediate fits an i64, and so does k times it
-signed-fits : (u : ℕ) → u < 65536 → SFits w64 (signed 16 u)
-signed-fits u h = go (ltb u 32768) refl
-  where
-    go : (b : Bool) → ltb u 32768 ≡ b → SFits w64 (signed 16 u)
-    go true e = rw (low16 u (ltb-true u 32768 e)) (record { sfits = omega arith })
-    go false e = rw (high16 u (ltb-false u 32768 e) h) (record { sfits = omega arith })
+pub signed-fits : (u : ℕ) → u < 65536 → SFits w64 (signed 16 u)
+signed-fits u h = by-sign (SFits w64) u h (λ l. record { sfits = omega arith }) (λ l. record { sfits = omega arith })
 
 pub times-fits : (k u : ℕ) → k * 65536 < 2 ^ 63 → u < 65536 → SFits w64 (pos k *ℤ signed 16 u)
-times-fits k u m h = go (ltb u 32768) refl
-  where
-    go : (b : Bool) → ltb u 32768 ≡ b → SFits w64 (pos k *ℤ signed 16 u)
-    go true e =
-        rw (low16 u (ltb-true u 32768 e)) (record { sfits = lt-of-le-of-lt (mul-le-mul-left k (omega arith)) m })
-    go false e =
-        rw (high16 u (ltb-false u 32768 e) h)
-        (record { sfits = lt-of-le-of-lt (mag-neg (k * suc (65535 - u))) (lt-of-le-of-lt (mul-le-mul-left k (omega arith)) m) })
+times-fits k u m h =
+    by-sign (λ z. SFits w64 (pos k *ℤ z)) u h
+    (λ l. record { sfits = lt-of-le-of-lt (mul-le-mul-left k (omega arith)) m })
+    (λ l. record { sfits = lt-of-le-of-lt (mag-neg (k * suc (65535 - u))) (lt-of-le-of-lt (mul-le-mul-left k (omega arith)) m) })
 
 -- an immediate that an i64 holds, times k, as the code works it out
 module _ (k u : ℕ) (m : k * 65536 < 2 ^ 63) (h : u < 65536) (z : ℤ) (e : z ≡ signed 16 u) where
@@ -93,22 +94,14 @@ module _ (k u : ℕ) (m : k * 65536 < 2 ^ 63) (h : u < 65536) (z : ℤ) (e : z �
 
 -- 65,536 times an immediate is the 32 bits with the immediate on top, as a signed number
 pub times-upper : (u : ℕ) → u < 65536 → pos 65536 *ℤ signed 16 u ≡ signed 32 (u * 65536)
-times-upper u h = go (ltb u 32768) refl
-  where
-    go : (b : Bool) → ltb u 32768 ≡ b → pos 65536 *ℤ signed 16 u ≡ signed 32 (u * 65536)
-    go true e =
-        ap (λ (z : ℤ). pos 65536 *ℤ z) (low16 u (ltb-true u 32768 e))
-        ∙ (ap pos (omega arith) ∙ sym (signed-low 32 refl (u * 65536) (omega (arith, ltb-true u 32768 e))))
-    go false e =
-        ap (λ (z : ℤ). pos 65536 *ℤ z) (high16 u (ltb-false u 32768 e) h)
-        ∙ (neg-pos (65536 * suc (65535 - u)) (omega arith)
-        ∙ (ap negsuc (omega arith) ∙ sym (signed-high 32 refl (u * 65536) (omega (arith, ltb-false u 32768 e)) (omega arith))))
+times-upper u h =
+    by-sign (λ z. pos 65536 *ℤ z ≡ signed 32 (u * 65536)) u h
+    (λ l. ap pos (omega arith) ∙ sym (signed-low 32 refl (u * 65536) (omega arith)))
+    (λ l.
+    neg-pos (65536 * suc (65535 - u)) (omega arith)
+    ∙ (ap negsuc (omega arith) ∙ sym (signed-high 32 refl (u * 65536) (omega arith) (omega arith))))
 
 -- ── modulo 2^64 ──
-
--- an i64 that holds a number below 2^63 holds that number
-pub held : (n : ℕ) → n < 2 ^ 63 → toZ w64 n ≡ pos n
-held n h = toZ-ofZ {w = w64} {z = pos n} (record { sfits = h })
 
 -- a sum modulo 2^64, from the numbers modulo 2^64
 add-modulo : (a : ℕ) (z : ℤ) → modulo64 (pos a +ℤ z) ≡ (a % 2 ^ 64 + modulo64 z) % 2 ^ 64
@@ -128,7 +121,7 @@ pub bits-of-negative : (z : ℤ) → SFits w64 z → ltZ z (pos 0) ≡ true → 
 bits-of-negative (pos n) f e = absurd (not-suc-le-zero (ltb-true n 0 e))
 bits-of-negative (negsuc n) f e =
     let flipped : 2 ^ 64 - 1 - (2 ^ 64 - suc n) ≡ n = omega (arith, f .sfits) in
-    (ap (toZ w64) flipped ∙ held n (f .sfits), omega (arith, f .sfits))
+    (ap (toZ w64) flipped ∙ toZ-pos w64 (f .sfits), omega (arith, f .sfits))
 
 pub bits-of-positive : (z : ℤ) → SFits w64 z → ltZ z (pos 0) ≡ false → T (nonNeg z) × (natAbs z ≡ modulo64 z)
 bits-of-positive (pos n) f e = (tt, omega (arith, f .sfits))
@@ -159,11 +152,58 @@ mag-sub a b = go (ltb a b)
     go true = omega arith
     go false = omega arith
 
-held-sub : (a b : ℕ) → a < 2 ^ 62 → b < 2 ^ 62 → toZ w64 a -ℤ toZ w64 b ≡ subℕ a b
-held-sub a b p q = rw (held a (omega arith), held b (omega arith)) (sub-is a b)
+sub-fits : (a b : ℕ) → a < 2 ^ 62 → b < 2 ^ 62 → SFits w64 (subℕ a b)
+sub-fits a b p q = record { sfits = lt-of-le-of-lt (mag-sub a b) (omega arith) }
 
-pub sub-fits : (a b : ℕ) → a < 2 ^ 62 → b < 2 ^ 62 → SFits w64 (toZ w64 a -ℤ toZ w64 b)
-sub-fits a b p q = rw (held-sub a b p q) (record { sfits = lt-of-le-of-lt (mag-sub a b) (omega arith) })
+pub size-fits : (msb lsb : ℕ) → msb < 64 → lsb < 64 → SFits w64 (sizeOf msb lsb)
+size-fits msb lsb p q = rw (size-is msb lsb) (sub-fits (msb + 1) lsb (omega arith) (omega arith))
 
-pub sub-held : (a b : ℕ) → a < 2 ^ 62 → b < 2 ^ 62 → toZ w64 (ofZ w64 (toZ w64 a -ℤ toZ w64 b)) ≡ subℕ a b
-sub-held a b p q = toZ-ofZ {w = w64} (sub-fits a b p q) ∙ held-sub a b p q
+-- the same as the code works it out
+module _ (a b : ℕ) (p : a < 2 ^ 62) (q : b < 2 ^ 62) where
+  held-sub : toZ w64 a -ℤ toZ w64 b ≡ subℕ a b
+  held-sub = rw (toZ-pos w64 {n = a} (omega arith), toZ-pos w64 {n = b} (omega arith)) (sub-is a b)
+
+  pub held-sub-fits : SFits w64 (toZ w64 a -ℤ toZ w64 b)
+  held-sub-fits = rw held-sub (sub-fits a b p q)
+
+  pub sub-held : toZ w64 (ofZ w64 (toZ w64 a -ℤ toZ w64 b)) ≡ subℕ a b
+  sub-held = toZ-ofZ {w = w64} held-sub-fits ∙ held-sub
+
+-- 64 bits as a signed number
+pub signed-is : (v : ℕ) → v < 2 ^ 64 → toZ w64 v ≡ signed 64 v
+signed-is v h = go (ltb v (2 ^ 63)) refl
+  where
+    go : (b : Bool) → ltb v (2 ^ 63) ≡ b → toZ w64 v ≡ signed 64 v
+    go true e =
+        let k : v < 2 ^ 63 = ltb-true v (2 ^ 63) e in
+        toZ-pos w64 k ∙ sym (signed-low 64 refl v k)
+    go false e =
+        let l : 2 ^ 63 ≤ v = ltb-false v (2 ^ 63) e in
+        let u : v ≡ 2 ^ 64 - suc (2 ^ 64 - (v + 1)) = omega arith in
+        ap (toZ w64) u ∙ toZ-neg w64 (2 ^ 64 - (v + 1)) (omega arith) ∙ sym (signed-high 64 refl v l h)
+
+-- and back from the 64 bits of one
+pub modulo-back : (z : ℤ) → SFits w64 z → signed 64 (modulo64 z) ≡ z
+modulo-back (pos n) f = ap (signed 64) (omega (arith, f .sfits)) ∙ twos-complement 64 refl .upward n (f .sfits)
+modulo-back (negsuc n) f = ap (signed 64) (omega (arith, f .sfits)) ∙ twos-complement 64 refl .downward n (f .sfits)
+
+-- ── addresses have 64 bits ──
+
+pub modulo-small : (z : ℤ) → modulo64 z < 2 ^ 64
+modulo-small (pos n) = omega arith
+modulo-small (negsuc n) = omega arith
+
+pub branch-small : (va u : ℕ) → branchTo va u < 2 ^ 64
+unfolding branchTo
+branch-small va u = modulo-small (pos (va + 4) +ℤ pos 4 *ℤ signed 16 u)
+
+pub jump-small : (va i : ℕ) → i < 67108864 → jumpTo va i < 2 ^ 64
+unfolding jumpTo
+jump-small va i h =
+    let q : ℕ = (va + 4) % 2 ^ 64 / 2 ^ 28 in
+    let k : q < 2 ^ 36 = omega arith in
+    omega (arith, h, k)
+
+pub upper-small : (u : ℕ) → upper u < 2 ^ 64
+unfolding upper
+upper-small u = modulo-small (signed 32 (u * 65536))

@@ -2,7 +2,7 @@
 -- Assumes nothing.
 use borrow.Author.Needs.{needs}
 use mathlib.Core.Path.{refl, sym, _∙_, subst}
-use Rattle.inverse.proofs.Proved.{accepted-as}
+use Rattle.classes.proofs.Accepts.{accepted-as}
 use Rattle.calmuredda.specs.Boundary.{on, EncodesRecord}
 use Rattle.calmuredda.proofs.Encoded.{refused, unpacked-to}
 use Rattle.calmuredda.proofs.calmuredda_encode.Statement.{statement}

@@ -2,7 +2,8 @@ use mathlib.Core.Path.{sym, _∙_, ap}
 use borrow.Author.Needs.{needs}
 use Rattle.reading.specs.declared.Decoded.{Decoded}
 use Rattle.reading.proofs.Same.{said-no, said-yes}
-use Rattle.inverse.proofs.Proved.{accepted-as, encoded, refused}
+use Rattle.classes.proofs.Accepts.{accepted-as}
+use Rattle.inverse.proofs.Proved.{encoded, refused}
 use Rattle.encode.proofs.encode.Statement.{statement}
 use Rattle.encode.proofs.encode.Tie as tie
 

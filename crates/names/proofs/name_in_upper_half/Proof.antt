@@ -6,9 +6,9 @@ use mathlib.Core.Path.{sym}
 use native.Mathlib.Omega.{arith}
 use Rattle.reading.specs.Names.{mnemonics, nameOf}
 use Rattle.names.specs.Names.{letter, letters, padded, nameBytes, same}
-use Rattle.classes.proofs.Tests.{allBelow}
+use Rattle.classes.proofs.Tests.{allBelow, past}
 use Rattle.names.proofs.Found.{no-name}
-use Rattle.names.proofs.Tables.{rightNames, arm, past}
+use Rattle.names.proofs.Tables.{rightNames, arm}
 use Rattle.names.proofs.name_in_upper_half.Statement.{statement}
 use Rattle.names.proofs.name_in_upper_half.Tie as tie
 

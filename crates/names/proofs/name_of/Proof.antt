@@ -5,8 +5,8 @@ use mathlib.Core.Path.{_∙_, ap}
 use native.Mathlib.Omega.{arith}
 use Rattle.reading.specs.Names.{mnemonics, nameOf}
 use Rattle.names.specs.Names.{letter, letters, padded, nameBytes, same}
-use Rattle.classes.proofs.Tests.{allBelow}
-use Rattle.names.proofs.Tables.{rightNames, arm-of, whole, past}
+use Rattle.classes.proofs.Tests.{allBelow, past}
+use Rattle.names.proofs.Tables.{rightNames, arm-of, whole}
 use Rattle.names.proofs.name_of.Statement.{statement}
 use Rattle.names.proofs.name_of.Tie as tie
 

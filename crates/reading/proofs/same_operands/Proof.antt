@@ -5,13 +5,14 @@ use mathlib.Core.List.{List}
 use lib.ListN.{getD}
 use borrow.Author.Needs.{needs}
 use Rattle.reading.specs.declared.Operand.{Operand}
-use Rattle.reading.proofs.Same.{Says, differs, said-no, said-yes, none, four}
+use Rattle.reading.specs.Reading.{unused}
+use Rattle.reading.proofs.Same.{Says, differs, said-no, said-yes, four}
 use Rattle.reading.proofs.same_operands.Statement.{statement}
 use Rattle.reading.proofs.same_operands.Tie as tie
 
 -- a difference at one place
-apart : (i : ℕ) {b : Bool} {xs ys : List Operand} → Says b (getD xs i none ≡ getD ys i none) → not b ≡ true → Says false (xs ≡ ys)
-apart i s e = differs (λ p. said-no s e (ap (λ (l : List Operand). getD l i none) p))
+apart : (i : ℕ) {b : Bool} {xs ys : List Operand} → Says b (getD xs i unused ≡ getD ys i unused) → not b ≡ true → Says false (xs ≡ ys)
+apart i s e = differs (λ p. said-no s e (ap (λ (l : List Operand). getD l i unused) p))
 
 returns-4 : tie.Need-returns-4
 returns-4 c = (
@@ -21,7 +22,7 @@ returns-4 c = (
       (said-yes (c .before .before .before .before .before .before .before .before .same-operand2 .ensures) (c .before .before .before .before .before .before .before .if2 .left))
       (said-yes (c .before .before .before .before .same-operand3 .ensures) (c .before .before .before .if3 .left))
       (c .same-operand4 .ensures .0 e),
-  λ e. c .same-operand4 .ensures .1 (ap (λ (l : List Operand). getD l 3 none) e),
+  λ e. c .same-operand4 .ensures .1 (ap (λ (l : List Operand). getD l 3 unused) e),
 )
 
 pub same-operands-spec : {M : Type 1} → statement M

@@ -5,7 +5,7 @@ use mathlib.Core.Path.{ap, _∙_}
 use native.Mathlib.Omega.{arith}
 use mir.Syntax.{w64}
 use mir.Val.{toZ}
-use Rattle.record.proofs.Cases.{signed-is}
+use Rattle.word.proofs.Signed.{signed-is}
 use mathlib.Core.Path.{_≡_}
 use Prim.Native.Nat.{_-_}
 use Rattle.record.proofs.signed.Statement.{statement}

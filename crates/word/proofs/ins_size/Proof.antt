@@ -3,12 +3,12 @@ use native.Mathlib.Omega.{arith}
 use Prim.Native.Nat.{_+_}
 use mathlib.Core.Path.{_∙_, sym}
 use Rattle.word.specs.Word.{bits, fieldsOf}
-use Rattle.word.proofs.Signed.{sub-fits, sub-held, size-is}
+use Rattle.word.proofs.Signed.{held-sub-fits, sub-held, size-is}
 use Rattle.word.proofs.ins_size.Statement.{statement}
 use Rattle.word.proofs.ins_size.Tie as tie
 
 sub-result : tie.Need-sub-result
-sub-result c = sub-fits (bits 15 11 (c .args .w) + 1) (bits 10 6 (c .args .w)) (omega arith) (omega arith)
+sub-result c = held-sub-fits (bits 15 11 (c .args .w) + 1) (bits 10 6 (c .args .w)) (omega arith) (omega arith)
 
 returns : tie.Need-returns
 unfolding fieldsOf

@@ -3,16 +3,18 @@ use native.Mathlib.Omega.{arith}
 use Prim.Native.Nat.{ℕ, _%_}
 use mathlib.Core.Path.{_∙_, sym, ap}
 use lib.IntN.{negsuc}
+use mir.Syntax.{w64}
+use mir.Facts.{toZ-pos}
 use Rattle.word.proofs.Fields.{imm-low}
-use Rattle.word.proofs.Signed.{held, low16, high16, sub-fits, sub-held, sub-more}
+use Rattle.word.proofs.Signed.{low16, high16, held-sub-fits, sub-held, sub-more}
 use Rattle.word.proofs.simm.Statement.{statement}
 use Rattle.word.proofs.simm.Tie as tie
 
 returns : tie.Need-returns
-returns c = rw (imm-low (c .before .args .w)) (held _ (omega arith) ∙ sym (low16 _ (c .if1 .taken)))
+returns c = rw (imm-low (c .before .args .w)) (toZ-pos w64 (omega arith) ∙ sym (low16 _ (c .if1 .taken)))
 
 sub-result : tie.Need-sub-result
-sub-result c = sub-fits (c .before .args .w % 65536) 65536 (omega arith) (omega arith)
+sub-result c = held-sub-fits (c .before .args .w % 65536) 65536 (omega arith) (omega arith)
 
 returns-2 : tie.Need-returns-2
 returns-2 c =
