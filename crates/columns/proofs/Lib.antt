@@ -1,0 +1,4 @@
+pub mod Forms
+pub mod Numbers
+pub mod Ends
+pub mod Moves
