@@ -1,22 +1,19 @@
 // Replays answers of the Rust. They come on standard input, a line for each, in the columns that tests/vectors/README.md lists. Each
 // line's word is decoded in three ways, and every part of each reading is compared with the line. The program prints how many answers
 // came and how many agree; where one does not, a second line names the first of them.
-mod columns;
-mod names;
+mod answer;
+mod mnemonic;
 mod parts;
 mod report;
 
-ghost use mathlib.Core.Path.{_≡_};
-ghost use Prim.Native.Nat.{_-_, _≤_};
+ghost use Prim.Native.Nat.{_≤_};
 ghost use lib.ListN.{length};
-use columns::Answer;
+use answer::Answer;
 use parts::PARTS;
 use reading::Decoded;
 use reading::kind;
 use report::Tally;
 use report::Verdict;
-
-const NEWLINE: u8 = b'\n';
 
 // The number of an accepted word.
 const ACCEPTED: u8 = 0;
@@ -51,12 +48,12 @@ fn same_mnemonic(text: &[u8], d: Decoded) -> bool {
     let insn = d.insn;
     let mnemonic = insn.mnemonic;
     if d.number == ACCEPTED {
-        return names::is_name(text, mnemonic);
+        return mnemonic::is_name(text, mnemonic);
     }
     if mnemonic != kind::NOP {
         return false;
     }
-    names::is_no_name(text)
+    mnemonic::is_no_name(text)
 }
 
 // The first part that the reading and the line do not share, or `AGREE`.
@@ -74,11 +71,11 @@ fn differing_part(text: &[u8], a: Answer, way: u8) -> usize {
 }
 
 fn judge(line: &[u8]) -> Verdict {
-    let a = columns::read(line);
+    let a = answer::read(line);
     if !a.good {
         return Verdict::Malformed;
     }
-    let text = columns::mnemonic(line);
+    let text = answer::mnemonic(line);
     let by_word = differing_part(text, a, report::BY_WORD);
     if by_word != parts::AGREE {
         return Verdict::Differs(a.word, by_word, report::BY_WORD);
@@ -96,21 +93,6 @@ fn judge(line: &[u8]) -> Verdict {
 
 // ── lines in a buffer ──
 
-// The place of the first newline from a place on, or the length where there is none.
-fn line_end(s: &[u8], from: usize) -> usize
-    requires { ⌜ from ≤ length (now s) ⌝ }
-    ensures { λ r. ⌜ (from ≤ r) × (r ≤ length (now (s .entry))) ⌝ }
-{
-    let mut i = from;
-    while i < s.len() {
-        if s[i] == NEWLINE {
-            return i;
-        }
-        i += 1;
-    }
-    i
-}
-
 // The tally, and the place after the last newline.
 struct Replayed {
     tally: Tally,
@@ -124,7 +106,7 @@ fn replay_lines(s: &[u8], tally: Tally) -> Replayed
     let mut done = tally;
     let mut at = 0;
     while at < s.len() {
-        let end = line_end(s, at);
+        let end = columns::line_end(s, at);
         if end == s.len() {
             break;
         }
@@ -132,19 +114,6 @@ fn replay_lines(s: &[u8], tally: Tally) -> Replayed
         at = end + 1;
     }
     Replayed { tally: done, at }
-}
-
-// Moves the bytes from one place up to another to the start, and answers how many they are.
-fn move_to_start(s: &mut [u8], from: usize, to: usize) -> usize
-    requires { ⌜ (from ≤ to) × (to ≤ length (now s)) ⌝ }
-    ensures { λ r. ⌜ r ≡ to - from ⌝ }
-{
-    let mut i = from;
-    while i < to {
-        s[i - from] = s[i];
-        i += 1;
-    }
-    to - from
 }
 
 // ── standard input ──
@@ -176,7 +145,7 @@ fn replay_filled(buffer: &mut [u8], filled: usize, tally: Tally) -> Carried
     let at = r.at;
     Carried {
         tally: done,
-        held: move_to_start(buffer, at, filled),
+        held: columns::move_to_start(buffer, at, filled),
     }
 }
 

@@ -62,7 +62,7 @@ pub fn with_slot(p: [u64; PARTS], k: usize, s: Slot) -> [u64; PARTS] {
     q
 }
 
-pub fn wide(x: u8) -> u64 {
+fn wide(x: u8) -> u64 {
     x as u64
 }
 

@@ -1,6 +1,5 @@
 // A line of answers taken apart. The offsets are those of tests/vectors/README.md.
-ghost use Prim.Native.Nat.{_+_, _≤_};
-ghost use lib.ListN.{length};
+ghost use Prim.Native.Nat.{_<_};
 use crate::parts;
 use crate::parts::PARTS;
 use crate::parts::Slot;
@@ -51,14 +50,14 @@ const VALUE_BEHIND: usize = 5;
 // No mnemonic is longer.
 const LONGEST_MNEMONIC: usize = 9;
 
-// How many digits an address or a value, a word and a register have; all else has one.
+// How many digits an address or a value and a register have; all else but the word has one.
 const VALUE_DIGITS: usize = 16;
-
-const WORD_DIGITS: usize = 8;
 
 const REGISTER_DIGITS: usize = 2;
 
-// What may stand at each offset before the mnemonic: h is a hex digit, b is 0 or 1, a space is itself.
+const ONE_DIGIT: usize = 1;
+
+// What may stand at each offset before the mnemonic, in the letters of `columns::has_form`.
 const FORM: [u8; 170] =
     *b"b hhhhhhhhhhhhhhhh hhhhhhhh h h b b hhhhhhhhhhhhhhhh h hh hh h hhhhhhhhhhhhhhhh h \
     h hh hhhhhhhhhhhhhhhh h hh hhhhhhhhhhhhhhhh h hh hhhhhhhhhhhhhhhh h hh hhhhhhhhhhhhhhhh ";
@@ -74,102 +73,52 @@ pub struct Answer {
     pub parts: [u64; PARTS],
 }
 
-fn is_hex_digit(byte: u8) -> bool {
-    match byte {
-        b'0'..=b'9' => true,
-        b'a'..=b'f' => true,
-        _ => false,
+// Has the line the form of an answer? A mnemonic has at least one letter, and no space after it.
+fn is_well_formed(line: &[u8]) -> bool {
+    let size = line.len();
+    if size <= MNEMONIC_AT {
+        return false;
     }
-}
-
-fn is_allowed(form: u8, byte: u8) -> bool {
-    match form {
-        b'h' => is_hex_digit(byte),
-        b'b' => byte == b'0' || byte == b'1',
-        _ => byte == form,
-    }
-}
-
-// Has the line the form of an answer? A space at its end would be lost where the mnemonic is compared, so it is refused here.
-fn is_well_formed(line: &[u8]) -> bool
-    requires { ⌜ 171 ≤ length (now line) ⌝ }
-{
-    if MNEMONIC_AT + LONGEST_MNEMONIC < line.len() {
+    if MNEMONIC_AT + LONGEST_MNEMONIC < size {
         return false;
     }
     let form = FORM;
-    let mut i = 0;
-    while i < MNEMONIC_AT {
-        if !is_allowed(form[i], line[i]) {
-            return false;
-        }
-        i += 1;
-    }
-    line[line.len() - 1] != SPACE
+    columns::has_form(line, &form) && line[size - 1] != SPACE
 }
 
-// The value of a hex digit, and 0 for a byte that is none.
-fn digit(byte: u8) -> u64 {
-    match byte {
-        b'0'..=b'9' => parts::wide(byte - b'0'),
-        b'a'..=b'f' => parts::wide(byte - b'a' + 10),
-        _ => 0,
-    }
-}
-
-// The number whose digits stand at a place.
-fn hex(line: &[u8], at: usize, digits: usize) -> u64
-    requires { ⌜ at + digits ≤ length (now line) ⌝ }
-{
-    let end = at + digits;
-    let mut value: u64 = 0;
-    let mut i = at;
-    while i < end {
-        value = (value << 4) | digit(line[i]);
-        i += 1;
-    }
-    value
-}
-
-fn one_digit(line: &[u8], at: usize) -> u64
-    requires { ⌜ at + 1 ≤ length (now line) ⌝ }
-{
-    digit(line[at])
+fn one_digit(line: &[u8], at: usize) -> u64 {
+    columns::hex(line, at, ONE_DIGIT)
 }
 
 fn slot_at(line: &[u8], at: usize) -> Slot
-    requires { ⌜ at + 21 ≤ length (now line) ⌝ }
+    requires { ⌜ at < 170 ⌝ }
 {
     Slot {
         kind: one_digit(line, at),
-        register: hex(line, at + REGISTER_BEHIND, REGISTER_DIGITS),
-        value: hex(line, at + VALUE_BEHIND, VALUE_DIGITS),
+        register: columns::hex(line, at + REGISTER_BEHIND, REGISTER_DIGITS),
+        value: columns::hex(line, at + VALUE_BEHIND, VALUE_DIGITS),
     }
 }
 
-fn with_slots(p: [u64; PARTS], line: &[u8]) -> [u64; PARTS]
-    requires { ⌜ 170 ≤ length (now line) ⌝ }
-{
+fn with_slots(p: [u64; PARTS], line: &[u8]) -> [u64; PARTS] {
     let one = parts::with_slot(p, 0, slot_at(line, SLOT_0_AT));
     let two = parts::with_slot(one, 1, slot_at(line, SLOT_1_AT));
     let three = parts::with_slot(two, 2, slot_at(line, SLOT_2_AT));
     parts::with_slot(three, 3, slot_at(line, SLOT_3_AT))
 }
 
-fn parts_of(line: &[u8]) -> [u64; PARTS]
-    requires { ⌜ 170 ≤ length (now line) ⌝ }
-{
+fn parts_of(line: &[u8]) -> [u64; PARTS] {
     let mut p = [0u64; PARTS];
     p[parts::NUMBER] = one_digit(line, NUMBER_AT);
     p[parts::FLOW] = one_digit(line, FLOW_AT);
     p[parts::MARK] = one_digit(line, MARK_AT);
     p[parts::PRESENT] = one_digit(line, PRESENT_AT);
-    p[parts::TARGET] = hex(line, TARGET_AT, VALUE_DIGITS);
+    p[parts::TARGET] = columns::hex(line, TARGET_AT, VALUE_DIGITS);
     p[parts::EFFECT] = one_digit(line, EFFECT_AT);
-    p[parts::FIRST] = hex(line, FIRST_AT, REGISTER_DIGITS);
-    p[parts::SECOND] = hex(line, SECOND_AT, REGISTER_DIGITS);
+    p[parts::FIRST] = columns::hex(line, FIRST_AT, REGISTER_DIGITS);
+    p[parts::SECOND] = columns::hex(line, SECOND_AT, REGISTER_DIGITS);
     p[parts::SIZE] = one_digit(line, SIZE_AT);
-    p[parts::VALUE] = hex(line, VALUE_AT, VALUE_DIGITS);
+    p[parts::VALUE] = columns::hex(line, VALUE_AT, VALUE_DIGITS);
     p[parts::COUNT] = one_digit(line, COUNT_AT);
     with_slots(p, line)
 }
@@ -185,19 +134,14 @@ fn malformed() -> Answer {
 }
 
 pub fn read(line: &[u8]) -> Answer {
-    if line.len() <= MNEMONIC_AT {
-        return malformed();
-    }
     if !is_well_formed(line) {
         return malformed();
     }
-    // Eight digits are no more than 32 bits, which the remainder tells the prover.
-    let word = hex(line, WORD_AT, WORD_DIGITS) % 0x1_0000_0000;
     Answer {
         good: true,
         wide: one_digit(line, WIDE_AT) == 1,
-        va: hex(line, VA_AT, VALUE_DIGITS),
-        word: word as u32,
+        va: columns::hex(line, VA_AT, VALUE_DIGITS),
+        word: columns::word(line, WORD_AT),
         parts: parts_of(line),
     }
 }
