@@ -2,20 +2,17 @@
 // for encode.txt. Each line's word is decoded and its reading encoded, which is to give the line's smallest word; then the reading is
 // damaged in many ways, and no word may come of it. The program prints how many words came and how many agree, and how many damaged
 // readings there were; before it a line for each of the first failures.
-mod columns;
 mod damage;
+mod question;
 mod report;
 
-ghost use mathlib.Core.Path.{_≡_};
-ghost use Prim.Native.Nat.{_-_, _≤_};
+ghost use Prim.Native.Nat.{_≤_};
 ghost use lib.ListN.{length};
-use columns::Question;
+use question::Question;
 use reading::Encoded;
 use reading::Insn;
 use report::Tally;
 use report::Verdict;
-
-const NEWLINE: u8 = b'\n';
 
 // The number of an accepted word.
 const ACCEPTED: u8 = 0;
@@ -82,7 +79,7 @@ fn with_verdict(tally: Tally, verdict: Verdict) -> Tally {
 
 fn judge(tally: Tally, line: &[u8]) -> Tally {
     let counted = tally.with_word();
-    let q = columns::read(line);
+    let q = question::read(line);
     if !q.good {
         return counted.with_failure(Verdict::Malformed);
     }
@@ -95,21 +92,6 @@ fn judge(tally: Tally, line: &[u8]) -> Tally {
 }
 
 // ── lines in a buffer ──
-
-// The place of the first newline from a place on, or the length where there is none.
-fn line_end(s: &[u8], from: usize) -> usize
-    requires { ⌜ from ≤ length (now s) ⌝ }
-    ensures { λ r. ⌜ (from ≤ r) × (r ≤ length (now (s .entry))) ⌝ }
-{
-    let mut i = from;
-    while i < s.len() {
-        if s[i] == NEWLINE {
-            return i;
-        }
-        i += 1;
-    }
-    i
-}
 
 // The tally, and the place after the last newline.
 struct Replayed {
@@ -124,7 +106,7 @@ fn replay_lines(s: &[u8], tally: Tally) -> Replayed
     let mut done = tally;
     let mut at = 0;
     while at < s.len() {
-        let end = line_end(s, at);
+        let end = columns::line_end(s, at);
         if end == s.len() {
             break;
         }
@@ -132,19 +114,6 @@ fn replay_lines(s: &[u8], tally: Tally) -> Replayed
         at = end + 1;
     }
     Replayed { tally: done, at }
-}
-
-// Moves the bytes from one place up to another to the start, and answers how many they are.
-fn move_to_start(s: &mut [u8], from: usize, to: usize) -> usize
-    requires { ⌜ (from ≤ to) × (to ≤ length (now s)) ⌝ }
-    ensures { λ r. ⌜ r ≡ to - from ⌝ }
-{
-    let mut i = from;
-    while i < to {
-        s[i - from] = s[i];
-        i += 1;
-    }
-    to - from
 }
 
 // ── standard input ──
@@ -176,7 +145,7 @@ fn replay_filled(buffer: &mut [u8], filled: usize, tally: Tally) -> Carried
     let at = r.at;
     Carried {
         tally: done,
-        held: move_to_start(buffer, at, filled),
+        held: columns::move_to_start(buffer, at, filled),
     }
 }
 
