@@ -28,6 +28,6 @@ abbrev pub num : List ℕ → ℕ
 num [] = 0
 num (b ∷ bs) = b + 256 * num bs
 
--- the number in the eight bytes from place `at` on, and 0 where there are fewer
-abbrev pub numAt : ℕ → List ℕ → ℕ
-numAt at l = cond (leb (at + 8) (length l)) (num (take 8 (drop at l))) 0
+-- the number in the k bytes from place `at` on, and 0 where there are fewer
+abbrev pub numAt : ℕ → ℕ → List ℕ → ℕ
+numAt k at l = cond (leb (at + k) (length l)) (num (take k (drop at l))) 0

@@ -4,7 +4,8 @@ ghost use mathlib.Core.Path.{_≡_};
 ghost use Prim.Native.Nat.{_+_, _≤_, _<_};
 ghost use lib.ListN.{length, take, drop};
 ghost use mathlib.Core.List.{[], _∷_};
-ghost use Rattle.buffers.specs.Bytes.{over, placed, le, num, numAt};
+ghost use Rattle.buffers.specs.Bytes.{over, placed, le, numAt};
+ghost use Rattle.buffers.specs.Private.Numbers.{Stands};
 
 // Copies src to dst from place `at` on.
 pub fn put(src: &[u8], dst: &mut [u8], at: usize)
@@ -62,10 +63,35 @@ pub fn put8(x: u64, dst: &mut [u8], at: usize)
     put(&b, dst, at);
 }
 
-// The number in eight bytes from place `at` on, the lowest first. Its own bytes are then those: a byte is below 256, which the list alone
-// does not say.
+// ── numbers in bytes, the lowest first ──
+
+// Each reads the bytes from place `at` on; 0 where there are fewer.
+
+pub fn get2(src: &[u8], at: usize) -> u16
+    ensures { λ r. ⌜ r ≡ numAt 2 at (now (src .entry)) ⌝ }
+{
+    if at <= src.len() {
+        if 2 <= src.len() - at {
+            return number2(src, at) as u16;
+        }
+    }
+    0
+}
+
+pub fn get4(src: &[u8], at: usize) -> u32
+    ensures { λ r. ⌜ r ≡ numAt 4 at (now (src .entry)) ⌝ }
+{
+    if at <= src.len() {
+        if 4 <= src.len() - at {
+            return number4(src, at) as u32;
+        }
+    }
+    0
+}
+
+// Its own bytes are then those: a byte is below 256, which the list alone does not say.
 pub fn get8(src: &[u8], at: usize) -> u64
-    ensures { λ r. ⌜ r ≡ numAt at (now (src .entry)) ⌝ }
+    ensures { λ r. ⌜ r ≡ numAt 8 at (now (src .entry)) ⌝ }
     ensures { λ r. ⌜ (at + 8 ≤ length (now (src .entry)) → le 8 r ≡ take 8 (drop at (now (src .entry)))) ⌝ }
 {
     if at <= src.len() {
@@ -76,24 +102,32 @@ pub fn get8(src: &[u8], at: usize) -> u64
     0
 }
 
+// A byte in eight bytes' room.
 fn wide(x: u8) -> u64
     ensures { λ r. ⌜ (r ≡ x) × (r < 256) ⌝ }
 {
     x as u64
 }
 
+// A number is made of its two halves.
+
+fn number2(b: &[u8], at: usize) -> u64
+    requires { ⌜ at + 2 ≤ length (now b) ⌝ }
+    ensures { λ r. ⌜ Stands 2 at (now (b .entry)) r ⌝ }
+{
+    wide(b[at]) + 0x100 * wide(b[at + 1])
+}
+
+fn number4(b: &[u8], at: usize) -> u64
+    requires { ⌜ at + 4 ≤ length (now b) ⌝ }
+    ensures { λ r. ⌜ Stands 4 at (now (b .entry)) r ⌝ }
+{
+    number2(b, at) + 0x1_0000 * number2(b, at + 2)
+}
+
 fn number8(b: &[u8], at: usize) -> u64
     requires { ⌜ at + 8 ≤ length (now b) ⌝ }
-    ensures { λ r. ⌜ r ≡ num (take 8 (drop at (now (b .entry)))) ⌝ }
-    ensures { λ r. ⌜ le 8 r ≡ take 8 (drop at (now (b .entry))) ⌝ }
+    ensures { λ r. ⌜ Stands 8 at (now (b .entry)) r ⌝ }
 {
-    let b0 = wide(b[at]);
-    let b1 = wide(b[at + 1]);
-    let b2 = wide(b[at + 2]);
-    let b3 = wide(b[at + 3]);
-    let b4 = wide(b[at + 4]);
-    let b5 = wide(b[at + 5]);
-    let b6 = wide(b[at + 6]);
-    let b7 = wide(b[at + 7]);
-    b0 + 256 * (b1 + 256 * (b2 + 256 * (b3 + 256 * (b4 + 256 * (b5 + 256 * (b6 + 256 * b7))))))
+    number4(b, at) + 0x1_0000_0000 * number4(b, at + 4)
 }

@@ -5,17 +5,16 @@ use mathlib.Core.Path.{_≡_, _∙_}
 use mathlib.Core.Bool.{Bool, true, false, cond}
 use mathlib.Core.List.{List, [], _∷_}
 use native.Mathlib.Nat.{zero-add, sub-zero}
-use native.Mathlib.Numerals.{towards-suc}
 use native.Mathlib.Omega.{arith}
 use borrow.Author.Tests.{eq-eqb, ne-eqb}
 use lib.ListN.{take, drop, getD}
-use Rattle.buffers.proofs.Laws.{each-is}
+use Rattle.buffers.proofs.Laws.{bytes-at}
 use Rattle.listing.specs.declared.View.{View}
 use Rattle.listing.specs.Body.{wordsIn, decodedAt, isRefused, refusedFrom, refusedIn}
 
 pub four : (body : List ℕ) (n : ℕ) → n < wordsIn body →
     take 4 (drop (4 * n) body) ≡ getD body (4 * n) 0 ∷ getD body (4 * n + 1) 0 ∷ getD body (4 * n + 2) 0 ∷ getD body (4 * n + 3) 0 ∷ []
-four body n h = each-is 4 (4 * n) body (omega arith) ∙ simp towards-suc
+four body n h = bytes-at 3 (4 * n) body (omega arith)
 
 -- no more words are refused than there are
 refused-one : (b : Bool) (m k : ℕ) → m ≤ k → cond b 1 0 + m ≤ suc k

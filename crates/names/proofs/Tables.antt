@@ -55,7 +55,7 @@ arm-of kind e d t = arm e (omega arith) d t ∙ ap nameBytes (whole kind)
 
 -- the place of a name: its first eight letters are one number
 abbrev pub placeIn : List ℕ → List ℕ → ℕ
-placeIn shifts l = (numAt 0 l % 265 + getD l 8 0 + getD shifts (numAt 0 l % 63) 0) % 256
+placeIn shifts l = (numAt 8 0 l % 265 + getD l 8 0 + getD shifts (numAt 8 0 l % 63) 0) % 256
 
 -- the kind of each name stands at the name's place
 unfoldable pub complete : List ℕ → List ℕ → Bool
@@ -66,7 +66,7 @@ unfoldable pub onlyKinds : List ℕ → Bool
 onlyKinds kinds = allBelow (λ p. ltb (getD kinds p 0) many || eqb (getD kinds p 0) noKind) 256
 
 -- n is the number of the first eight letters, x the ninth, s the shift: r, at their place, is the candidate
-pub candidate-is : {shifts kinds l : List ℕ} {y r : ℕ} (n x s : ℕ) → n ≡ numAt 0 l → x ≡ getD l 8 0 → IsEntry shifts (n % 63) y → s ≡ y → IsEntry kinds ((n % 265 + x + s) % 256) r → T (complete shifts kinds) → T (onlyKinds kinds) → Candidate l r
+pub candidate-is : {shifts kinds l : List ℕ} {y r : ℕ} (n x s : ℕ) → n ≡ numAt 8 0 l → x ≡ getD l 8 0 → IsEntry shifts (n % 63) y → s ≡ y → IsEntry kinds ((n % 265 + x + s) % 256) r → T (complete shifts kinds) → T (onlyKinds kinds) → Candidate l r
 unfolding complete onlyKinds
 candidate-is {shifts} {kinds} {l} {r = r} n x s en ex ey es er t u =
     record {

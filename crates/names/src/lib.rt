@@ -361,20 +361,14 @@ fn kind_in(kinds: [u8; 256], place: usize) -> u8
     kinds[place]
 }
 
-fn wide(x: u8) -> u64
-    ensures { λ r. ⌜ (r ≡ x) × (r < 256) ⌝ }
-{
-    x as u64
-}
-
 // The only kind that may have this name, or NO_KIND.
 fn candidate(name: [u8; 16]) -> u8
     ensures { λ r. ⌜ Candidate name r ⌝ }
 {
     let letters = buffers::get8(&name, 0);
-    let ninth = wide(name[8]);
+    let ninth = name[8] as u64;
     let row = (letters % SHIFTS_DIVISOR) as usize;
-    let shift = wide(shift_in(SHIFTS, row));
+    let shift = shift_in(SHIFTS, row) as u64;
     let place = ((letters % PLACE_DIVISOR + ninth + shift) % PLACES) as usize;
     kind_in(KINDS, place)
 }

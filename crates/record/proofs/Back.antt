@@ -29,7 +29,7 @@ use Rattle.reading.specs.Reading.{operand, unused}
 use Rattle.reading.specs.Numbers.{opParts, effectParts, targetParts, valueOf, flowNumber}
 use Rattle.reading.proofs.Same.{four-slots}
 use Rattle.buffers.specs.Bytes.{le, num}
-use Rattle.buffers.proofs.Laws.{num-le}
+use Rattle.buffers.proofs.Numbers.{num-le}
 use Rattle.names.specs.Names.{letters, padded, nameBytes, kindOf}
 use Rattle.names.proofs.Proved.{theorems}
 use Rattle.record.specs.Record.{bit, slotParts, slotOf, insnBytes}

@@ -1,14 +1,11 @@
 -- A case by its number: what numbers outside of the list count as. And a record by its answer's number.
 -- Assumes nothing.
-use Prim.Native.Nat.{ℕ, zero, suc, _+_, _≤_, _<_}
+use Prim.Native.Nat.{ℕ, zero, suc, _≤_, _<_}
 use mathlib.Core.Path.{_≡_, refl, ap}
 use mathlib.Core.List.{List}
 use native.Mathlib.Omega.{arith}
 use lib.ListN.{length, getD, List·getD-eq-default}
-use borrow.Author.Tests.{le-leb}
 use Rattle.reading.specs.declared.Decoded.{Decoded}
-use Rattle.buffers.specs.Bytes.{numAt}
-use Rattle.record.specs.Unpacked.{numberAt}
 use Rattle.record.specs.Record.{bytesBy, numberBytes, insnBytes, recordOf}
 
 -- 0, and any number past the list, is the case at 0
@@ -29,8 +26,3 @@ refused-bytes d h = go (d .number) h
 pub accepted-bytes : (d : Decoded) → d .number ≡ 0 → recordOf d ≡ insnBytes (d .insn)
 unfolding recordOf
 accepted-bytes d e = ap (λ (n : ℕ). bytesBy n (d .insn)) e
-
--- ── a number of eight bytes, where there are as many ──
-
-pub in-reach : (at : ℕ) (l : List ℕ) → at + 8 ≤ length l → numAt at l ≡ numberAt at l
-in-reach at l h = rw (le-leb (at + 8) (length l) h)

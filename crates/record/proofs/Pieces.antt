@@ -10,9 +10,9 @@ use lib.Seq.{take-at, drop-at, take-take, take-add, drop-drop, length-take-le, g
 use lib.Dec.{eqb}
 use borrow.Author.Tests.{eqb-true, eq-eqb}
 use native.Mathlib.Nat.{add-zero}
-use native.Mathlib.Numerals.{add-one}
 use Rattle.buffers.specs.Bytes.{le, num}
-use Rattle.buffers.proofs.Laws.{each-is, num-le}
+use Rattle.buffers.proofs.Laws.{bytes-at}
+use Rattle.buffers.proofs.Numbers.{num-le}
 use Rattle.reading.proofs.Same.{Says}
 use Rattle.record.specs.Private.Steps.{part}
 
@@ -44,15 +44,11 @@ pub first-byte : (at n : ℕ) (l p : List ℕ) → 0 < n → p ≡ part at n l �
 first-byte at n l p h e = ap (λ (k : ℕ). getD l k 0) (sym (add-zero at)) ∙ byte-of at n l p 0 h e
 
 pub two-bytes : (at x y : ℕ) (l : List ℕ) → at + 2 ≤ length l → getD l at 0 ≡ x → getD l (at + 1) 0 ≡ y → x ∷ y ∷ [] ≡ part at 2 l
-two-bytes at x y l h p q =
-    (λ i. sym p i ∷ (sym q ∙ ap (λ (k : ℕ). getD l k 0) (add-one at)) i ∷ []) ∙ sym (each-is 2 at l h)
+two-bytes at x y l h p q = (λ i. sym p i ∷ sym q i ∷ []) ∙ sym (bytes-at 1 at l h)
 
 pub four-bytes : (at w x y z : ℕ) (l : List ℕ) → at + 4 ≤ length l → getD l at 0 ≡ w → getD l (at + 1) 0 ≡ x → getD l (at + 2) 0 ≡ y → getD l (at + 3) 0 ≡ z →
     w ∷ x ∷ y ∷ z ∷ [] ≡ part at 4 l
-four-bytes at w x y z l h p q r s =
-    both-parts at 2 2 (w ∷ x ∷ []) (y ∷ z ∷ []) l refl
-    (two-bytes at w x l (omega arith) p q)
-    (two-bytes (at + 2) y z l (omega arith) r (ap (λ (k : ℕ). getD l k 0) (omega arith) ∙ s))
+four-bytes at w x y z l h p q r s = (λ i. sym p i ∷ sym q i ∷ sym r i ∷ sym s i ∷ []) ∙ sym (bytes-at 3 at l h)
 
 -- some bytes that stand there, and a number n in the eight bytes after them: is it v?
 pub then-number : (at k : ℕ) (bs l : List ℕ) (v n : ℕ) → length bs ≡ k → at + k + 8 ≤ length l → v < 2 ^ 64 → n < 2 ^ 64 →

@@ -1,4 +1,3 @@
-pub mod Numbers
 pub mod Good
 pub mod Answers
 pub mod Proved

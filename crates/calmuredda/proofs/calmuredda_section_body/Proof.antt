@@ -10,7 +10,7 @@ use Rattle.calmuredda.proofs.calmuredda_section_body.Tie as tie
 returns : tie.Need-returns
 returns c =
     let a = c .before .before .before .before .args in
-    (c .refusal .ensures, (c .before .before .start .ensures, ap length (c .before .body .ensures) ∙ theorems .sized (a .file .now) (a .n)))
+    (c .refusal .ensures, (c .before .before .start .ensures, ap length (c .before .body .ensures .0) ∙ theorems .sized (a .file .now) (a .n)))
 
 pub calmuredda-section-body-spec : {M : Type 1} → statement M
 calmuredda-section-body-spec =

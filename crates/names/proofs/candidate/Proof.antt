@@ -1,6 +1,11 @@
 -- `names::candidate` meets its contract: computed tests of SHIFTS and KINDS.
 -- Assumes nothing.
 use borrow.Author.Needs.{needs}
+use mathlib.Core.Path.{refl}
+use native.Mathlib.Omega.{arith}
+use lib.ListN.{getD}
+use mir.Syntax.{w8}
+use mir.Val.{Fits}
 use Rattle.reading.specs.Names.{mnemonics, nameOf}
 use Rattle.names.specs.Names.{letter, letters, padded, nameBytes}
 use Rattle.classes.proofs.Tests.{allBelow}
@@ -8,13 +13,23 @@ use Rattle.names.proofs.Tables.{complete, onlyKinds, candidate-is}
 use Rattle.names.proofs.candidate.Statement.{statement}
 use Rattle.names.proofs.candidate.Tie as tie
 
+add-place : tie.Need-add-place
+add-place c =
+    let ninth : Fits w8 (getD (c .before .before .before .args .t1) 8 0) = search needs in
+    omega (arith, ninth .fits)
+
+add-place-2 : tie.Need-add-place-2
+add-place-2 c =
+    let ninth : Fits w8 (getD (c .before .before .before .args .t1) 8 0) = search needs in
+    let shift : Fits w8 (c .shift-in .result) = search needs in
+    omega (arith, ninth .fits, shift .fits)
+
 returns : tie.Need-returns
 unfolding complete onlyKinds allBelow nameBytes nameOf mnemonics padded letters letter
 returns c =
-    let n = c .before .before .before .before .get8 in
-    let x = c .before .before .before .wide in
-    let s = c .before .wide2 in
-    candidate-is (n .result) (x .result) (s .result) (n .ensures .0) (x .ensures .0) (c .before .before .shift-in .ensures) (s .ensures .0) (c .kind-in .ensures) tt tt
+    let n = c .before .before .get8 in
+    let s = c .before .shift-in in
+    candidate-is (n .result) (getD (c .before .before .before .before .args .t1) 8 0) (s .result) (n .ensures .0) refl (s .ensures) refl (c .kind-in .ensures) tt tt
 
 pub candidate-spec : {M : Type 1} → statement M
 candidate-spec =
@@ -23,10 +38,10 @@ candidate-spec =
     (λ c. search needs)
     (λ c κs. search needs)
     (λ c. search needs)
-    (λ c κs. search needs)
-    (λ c κs. search needs)
+    (λ c. search needs)
     (λ c κs. search needs)
     (λ c. search needs)
-    (λ c. search needs)
+    add-place
+    add-place-2
     (λ c κs. search needs)
     returns)

@@ -8,7 +8,8 @@ use native.Mathlib.Omega.{arith}
 use Rattle.reading.specs.declared.Parts.{Parts}
 use Rattle.reading.specs.Numbers.{effectParts, valueOf}
 use Rattle.buffers.specs.Bytes.{le}
-use Rattle.buffers.proofs.Laws.{first-at, next-at, byte, low8}
+use Rattle.buffers.proofs.Laws.{first-at, next-at, byte}
+use Rattle.buffers.proofs.Numbers.{low8}
 use Rattle.record.proofs.effect.Statement.{statement}
 use Rattle.record.proofs.effect.Tie as tie
 

@@ -7,7 +7,7 @@ use native.Mathlib.Omega.{arith}
 use lib.Dec.{eqb}
 use Rattle.names.specs.Names.{kindOf}
 use Rattle.record.specs.Unpacked.{byteAt, targetIn, insnIn}
-use Rattle.record.proofs.Cases.{in-reach}
+use Rattle.buffers.proofs.Numbers.{in-reach}
 use Rattle.record.proofs.insn_in.Statement.{statement}
 use Rattle.record.proofs.insn_in.Tie as tie
 
@@ -21,7 +21,7 @@ returns c =
       count = byteAt 3 l;
       ops = c .before .before .before .before .before .before .before .operands-in .ensures t;
       flow = c .before .before .before .before .before .flow-in .ensures t;
-      target = (c .before .before .target-in .ensures ∙ ap (targetIn (byteAt 2 l)) (c .before .before .before .get8 .ensures .0 ∙ in-reach 4 l (omega arith))) t;
+      target = (c .before .before .target-in .ensures ∙ ap (targetIn (byteAt 2 l)) (c .before .before .before .get8 .ensures .0 ∙ in-reach 8 4 l (omega arith))) t;
       «delay_slot» = eqb (byteAt 2 l % 2) 1;
       effect = c .effect-in .ensures t;
     }

@@ -6,7 +6,7 @@ use mathlib.Core.List.{_∷_}
 use Prim.Native.Nat.{ℕ, _%_, _^_}
 use Rattle.reading.specs.declared.Parts.{Parts}
 use Rattle.reading.specs.Numbers.{targetParts, valueOf}
-use Rattle.buffers.proofs.Laws.{low8}
+use Rattle.buffers.proofs.Numbers.{low8}
 use Rattle.record.proofs.Pieces.{in-other-words}
 use Rattle.record.proofs.is_head.Statement.{statement}
 use Rattle.record.proofs.is_head.Tie as tie

@@ -3,12 +3,12 @@
 use borrow.Author.Needs.{needs}
 use mathlib.Core.Path.{sym}
 use native.Mathlib.Omega.{arith}
-use Rattle.buffers.proofs.Laws.{each-is}
+use Rattle.buffers.proofs.Laws.{bytes-at}
 use Rattle.record.proofs.name_in.Statement.{statement}
 use Rattle.record.proofs.name_in.Tie as tie
 
 returns : tie.Need-returns
-returns c = sym (each-is 16 64 (c .before .before .before .before .before .before .before .before .before .before .before .before .before .before .before .before .args .b .now) (omega arith))
+returns c = sym (bytes-at 15 64 (c .before .before .before .before .before .before .before .before .before .before .before .before .before .before .before .before .args .b .now) (omega arith))
 
 pub name-in-spec : {M : Type 1} → statement M
 name-in-spec =

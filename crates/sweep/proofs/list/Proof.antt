@@ -18,7 +18,7 @@ abbrev μ-loop : tie.MeasureT-loop
 
 -- how many words a body has, and how many of them are refused
 short : (c : tie.After-body Inv-loop μ-loop) → length (c .body .result .now) ≤ 65535
-short c = rw (c .body .ensures) (body-most _ _)
+short c = rw (c .body .ensures .0) (body-most _ _)
 
 fewer : (c : tie.After-refused Inv-loop μ-loop) → c .refused .result ≤ 16383
 fewer c =
