@@ -1,6 +1,7 @@
 // Decodes the words of standard input and encodes their readings again, for bench/run to count instructions.
 // The input is that of bench_decode: a byte that says whether to encode, a byte that is the width flag, two that are not looked at, then
 // the words, little-endian. Where it does not encode it decodes all the same: that is what the loop costs without the encoder.
+// Stands on `decode`, `encode` and the kit's `io`.
 use reading::Encoded;
 use reading::Insn;
 

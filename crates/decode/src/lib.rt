@@ -1,5 +1,6 @@
 // mips.rs: `decode`, `decode_word` and `decode_cop1`, arm by arm, with a function for each group of words.
 // An arm names the class of the word (`class`); the source's closures and its `i` make the reading of it (`forms`).
+// Stands on `word` and `reading`; what the answers mean is defined in `classes`.
 ghost use Prim.Native.Nat.{_≤_};
 ghost use mathlib.Core.Path.{_≡_};
 ghost use mathlib.Core.List.{[], _∷_};

@@ -175,7 +175,7 @@ pub fn flow_number(f: Flow) -> u8
 }
 
 // The reading that a refusal carries.
-pub fn blank() -> Insn
+fn blank() -> Insn
     ensures { λ r. ⌜ r ≡ blankInsn ⌝ }
 {
     let unused = Operand { op: Op::Reg(0) };

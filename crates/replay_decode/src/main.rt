@@ -1,6 +1,7 @@
 // Replays answers of the Rust. They come on standard input, a line for each, in the columns that tests/vectors/README.md lists. Each
 // line's word is decoded in three ways, and every part of each reading is compared with the line. The program prints how many answers
-// came and how many agree; where one does not, a second line names the first of them.
+// came and how many agree; where one does not, a second line names the first of them. Stands on `decode`, on `names`
+// and `columns` for the lines, and on the kit's `io` and `libc`.
 mod answer;
 mod mnemonic;
 mod parts;

@@ -1,7 +1,7 @@
 // Replays words through the encoder. They come on standard input, a line for each, in the columns that tests/vectors/README.md lists
 // for encode.txt. Each line's word is decoded and its reading encoded, which is to give the line's smallest word; then the reading is
 // damaged in many ways, and no word may come of it. The program prints how many words came and how many agree, and how many damaged
-// readings there were; before it a line for each of the first failures.
+// readings there were; before it a line for each of the first failures. Stands on `decode`, `encode` and `columns`, and on the kit's `io` and `libc`.
 mod damage;
 mod question;
 mod report;

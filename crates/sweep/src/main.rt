@@ -1,5 +1,5 @@
 // Lists a section file from standard input on standard output. How a file is checked and what a line is are matters of the libraries
-// `section` and `listing`; here is only what stands around the lines. A write that fails ends the program.
+// `section` and `listing`; here is only what stands around the lines. A write that fails ends the program. Stands on these two and the kit's `io`.
 use listing::View;
 
 const INPUT: i32 = 0;

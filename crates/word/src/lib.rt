@@ -85,7 +85,7 @@ pub fn simm(w: u32) -> i64
 }
 
 // The 26-bit index of `j` and `jal`.
-pub fn jump_index(w: u32) -> u32
+fn jump_index(w: u32) -> u32
     ensures { λ r. ⌜ r ≡ index (fieldsOf w) ⌝ }
 {
     w % INDEXES
@@ -120,7 +120,7 @@ pub fn jump_target(w: u32, va: u64) -> u64
 }
 
 // The value of `lui`, the source's `(uimm << 16) as i32 as i64`: 0x7fff0000 down to -0x80000000.
-pub fn lui(w: u32) -> i64
+fn lui(w: u32) -> i64
     ensures { λ r. ⌜ r ≡ signed 32 (imm (fieldsOf w) * 65536) ⌝ }
 {
     TWO_TO_16 * simm(w)
