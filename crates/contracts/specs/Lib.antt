@@ -1,0 +1,16 @@
+pub mod Exact
+pub mod Word
+pub mod Reading
+pub mod Decode
+pub mod Encode
+pub mod Buffers
+pub mod Names
+pub mod Record
+pub mod Text
+pub mod Columns
+pub mod Line
+pub mod Section
+pub mod Listing
+pub mod Calmuredda
+pub mod Theorems
+pub mod Attacks
