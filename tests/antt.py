@@ -36,8 +36,8 @@ TOKEN = re.compile(r'"[^"]*"|[(){};]|[^\s(){};"]+')
 # What stands between the parts of a list, and between the operands of a form.
 LIST_SIGNS = ("∷", "++", "▸")
 INFIX = {
-    "∈": lambda field, values: ("∈", field, values),
-    "∉": lambda field, values: ("∉", field, values),
+    "one-of": lambda field, values: ("one-of", field, values),
+    "none-of": lambda field, values: ("none-of", field, values),
     "to": lambda first, last: list(range(first, last + 1)),
     "+": operator.add,
 }

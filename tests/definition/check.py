@@ -42,7 +42,7 @@ def rows_by_op(rows):
 def refusal(refusals, f):
     """The number of the first entry that refuses the word; 0 if none does."""
     for entry in refusals:
-        if all((f[x] in values) == (sign == "∈") for sign, x, values in entry["tests"]):
+        if all((f[x] in values) == (sign == "one-of") for sign, x, values in entry["tests"]):
             return entry["number"]
     return 0
 

@@ -74,7 +74,7 @@ class Words:
         self.flags = flags
         self.allowed = {x: range(ROOM[x]) for x in FIELDS}
         for sign, x, values in tests:
-            self.allowed[x] = [v for v in self.allowed[x] if (v in values) == (sign == "∈")]
+            self.allowed[x] = [v for v in self.allowed[x] if (v in values) == (sign == "one-of")]
         tied = set().union(*(relations.fields(relation) for _, relation in claims))
         self.tied = [x for x in FIELDS if x in tied]
         together = itertools.product(*(self.allowed[x] for x in self.tied))
@@ -284,7 +284,7 @@ def column_test(field, column):
         "over": lambda name, k, v: lambda a: a % 2**k == v,
         "under": lambda v, k, name: lambda a: a // 2**k == v,
     }
-    return "∈", field, list(filter(tests[sign](*parts), range(ROOM[field])))
+    return "one-of", field, list(filter(tests[sign](*parts), range(ROOM[field])))
 
 
 def pages_of(repository):

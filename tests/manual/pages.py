@@ -60,7 +60,7 @@ def place(word, column):
 
 def tests_of(tests):
     """Each test as (column, is it `in`?, numbers)."""
-    return [(column, sign == "∈", set(values)) for sign, column, values in tests]
+    return [(column, sign == "one-of", set(values)) for sign, column, values in tests]
 
 
 def meets(tests, word):

@@ -19,9 +19,9 @@ abbrev pub placed : ℕ → List ℕ → List ℕ → List ℕ
 placed at l d = cond (leb (at + length l) (length d)) (overAt at l d) d
 
 -- the low k bytes of n, the lowest first
-abbrev pub le : ℕ → ℕ → List ℕ
-le zero n = []
-le (suc k) n = n % 256 ∷ le k (n / 256)
+abbrev pub littleEndian : ℕ → ℕ → List ℕ
+littleEndian zero n = []
+littleEndian (suc k) n = n % 256 ∷ littleEndian k (n / 256)
 
 -- the number that bytes give, the lowest first
 abbrev pub num : List ℕ → ℕ

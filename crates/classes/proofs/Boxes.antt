@@ -9,7 +9,7 @@ use lib.Dec.{T, eqb, leb}
 use Rattle.word.specs.Word.{Field, sameField, op, rs, rt, rd, sa, fn, Fields, Fit}
 use Rattle.classes.specs.Row.{Pat, is, read, readBut, skip, skipBut, low, Row, patOf}
 use Rattle.classes.specs.Meaning.{match, six, nopLike, takes}
-use Rattle.classes.specs.Refusals.{Test, _∈_, _∉_, elem, holds, Refusal, meets}
+use Rattle.classes.specs.Refusals.{Test, _one-of_, _none-of_, elem, holds, Refusal, meets}
 use Rattle.classes.specs.Theorems.{taking}
 use Rattle.classes.proofs.Walk.{Guard, passes}
 use Rattle.classes.proofs.Cover.{Box, within, ones, count, walked-ones, count-append, count-none, count-box, meet, within-meet, six-same}
@@ -119,8 +119,8 @@ count-rows (r ∷ ts) f = count-append (boxesBy (r .nops) (rowBox r)) (boxes ts)
 -- ── refusals ──
 
 unfoldable pub testBox : Test → Box
-testBox (y ∈ vs) x = cond (sameField y x) (some (λ a. elem a vs)) none
-testBox (y ∉ vs) x = cond (sameField y x) (some (λ a. not (elem a vs))) none
+testBox (y one-of vs) x = cond (sameField y x) (some (λ a. elem a vs)) none
+testBox (y none-of vs) x = cond (sameField y x) (some (λ a. not (elem a vs))) none
 
 -- a test at one field is that test
 only-at : (y : Field) (p : ℕ → Bool) (f : Fields) → within (λ x. cond (sameField y x) (some p) none) f ≡ p (f y)
@@ -134,8 +134,8 @@ only-at fn p f = refl
 
 within-test : (t : Test) (f : Fields) → within (testBox t) f ≡ holds t f
 unfolding testBox holds
-within-test (y ∈ vs) f = only-at y (λ a. elem a vs) f
-within-test (y ∉ vs) f = only-at y (λ a. not (elem a vs)) f
+within-test (y one-of vs) f = only-at y (λ a. elem a vs) f
+within-test (y none-of vs) f = only-at y (λ a. not (elem a vs)) f
 
 unfoldable pub testsBox : List Test → Box
 testsBox [] x = none

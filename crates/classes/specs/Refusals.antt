@@ -9,18 +9,18 @@ use Rattle.reading.specs.Kind.{from}
 
 -- is the field one of these, or none of these?
 pub data Test : Type 0 where
-  _∈_ : Field → List ℕ → Test
-  _∉_ : Field → List ℕ → Test
+  _one-of_ : Field → List ℕ → Test
+  _none-of_ : Field → List ℕ → Test
 
-infix 80 _∈_
-infix 80 _∉_
+infix 80 _one-of_
+infix 80 _none-of_
 unfoldable pub elem : ℕ → List ℕ → Bool
 elem a [] = false
 elem a (v ∷ vs) = eqb a v || elem a vs
 
 unfoldable pub holds : Test → Fields → Bool
-holds (x ∈ vs) f = elem (f x) vs
-holds (x ∉ vs) f = not (elem (f x) vs)
+holds (x one-of vs) f = elem (f x) vs
+holds (x none-of vs) f = not (elem (f x) vs)
 
 -- an entry: its number, and the tests that a word meets which it refuses
 pub record Refusal : Type 0 where
@@ -54,20 +54,20 @@ arithmetic = 16 ∷ 17 ∷ 20 ∷ 21 ∷ []
 unfoldable pub refusals : List Refusal
 refusals =
     -- op
-    refuse 2 (op ∈ (18 ∷ 19 ∷ 29 ∷ 30 ∷ 50 ∷ 54 ∷ 58 ∷ 59 ∷ 62 ∷ []) ∷ []) ∷
+    refuse 2 (op one-of (18 ∷ 19 ∷ 29 ∷ 30 ∷ 50 ∷ 54 ∷ 58 ∷ 59 ∷ 62 ∷ []) ∷ []) ∷
     -- SPECIAL, by funct
-    refuse 3 (op ∈ only 0 ∷ fn ∈ (1 ∷ 5 ∷ 14 ∷ 21 ∷ 40 ∷ 41 ∷ 53 ∷ 55 ∷ 57 ∷ 61 ∷ []) ∷ []) ∷
+    refuse 3 (op one-of only 0 ∷ fn one-of (1 ∷ 5 ∷ 14 ∷ 21 ∷ 40 ∷ 41 ∷ 53 ∷ 55 ∷ 57 ∷ 61 ∷ []) ∷ []) ∷
     -- REGIMM, by rt
-    refuse 4 (op ∈ only 1 ∷ rt ∉ (0 to 3 ++ 16 ∷ 17 ∷ []) ∷ []) ∷
+    refuse 4 (op one-of only 1 ∷ rt none-of (0 to 3 ++ 16 ∷ 17 ∷ []) ∷ []) ∷
     -- COP0, by rs; rs 16 by funct
-    refuse 5 (op ∈ only 16 ∷ rs ∉ (0 ∷ 4 ∷ 16 ∷ []) ∷ []) ∷
-    refuse 5 (op ∈ only 16 ∷ rs ∈ only 16 ∷ fn ∉ (24 ∷ 32 ∷ []) ∷ []) ∷
+    refuse 5 (op one-of only 16 ∷ rs none-of (0 ∷ 4 ∷ 16 ∷ []) ∷ []) ∷
+    refuse 5 (op one-of only 16 ∷ rs one-of only 16 ∷ fn none-of (24 ∷ 32 ∷ []) ∷ []) ∷
     -- COP1, by fmt, the rs bits; 16, 17, 20 and 21 by funct
-    refuse 6 (op ∈ only 17 ∷ rs ∈ (3 ∷ 7 ∷ 9 to 15 ++ 18 ∷ 19 ∷ 22 to 31) ∷ []) ∷
-    refuse 6 (op ∈ only 17 ∷ rs ∈ arithmetic ∷ fn ∉ (0 to 7 ++ 13 ∷ 32 ∷ 33 ∷ 36 ∷ 37 ∷ 50 ∷ 60 ∷ 62 ∷ []) ∷ []) ∷
+    refuse 6 (op one-of only 17 ∷ rs one-of (3 ∷ 7 ∷ 9 to 15 ++ 18 ∷ 19 ∷ 22 to 31) ∷ []) ∷
+    refuse 6 (op one-of only 17 ∷ rs one-of arithmetic ∷ fn none-of (0 to 7 ++ 13 ∷ 32 ∷ 33 ∷ 36 ∷ 37 ∷ 50 ∷ 60 ∷ 62 ∷ []) ∷ []) ∷
     -- SPECIAL2, by funct
-    refuse 7 (op ∈ only 28 ∷ fn ∉ (0 ∷ 1 ∷ 2 ∷ 4 ∷ 32 ∷ 33 ∷ []) ∷ []) ∷
+    refuse 7 (op one-of only 28 ∷ fn none-of (0 ∷ 1 ∷ 2 ∷ 4 ∷ 32 ∷ 33 ∷ []) ∷ []) ∷
     -- SPECIAL3, by funct; 32 by sa
-    refuse 8 (op ∈ only 31 ∷ fn ∉ (0 ∷ 4 ∷ 32 ∷ 59 ∷ []) ∷ []) ∷
-    refuse 8 (op ∈ only 31 ∷ fn ∈ only 32 ∷ sa ∉ (2 ∷ 16 ∷ 24 ∷ []) ∷ []) ∷
+    refuse 8 (op one-of only 31 ∷ fn none-of (0 ∷ 4 ∷ 32 ∷ 59 ∷ []) ∷ []) ∷
+    refuse 8 (op one-of only 31 ∷ fn one-of only 32 ∷ sa none-of (2 ∷ 16 ∷ 24 ∷ []) ∷ []) ∷
     []

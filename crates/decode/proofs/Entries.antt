@@ -8,7 +8,7 @@ use mathlib.Core.Option.{Option, none, some, Option·none-ne-some, Option·some-
 use native.Mathlib.Omega.{arith}
 use lib.Dec.{T}
 use Rattle.word.specs.Word.{Fields, Fit}
-use Rattle.classes.specs.Refusals.{Test, _∈_, _∉_, elem, holds, Refusal, meets, refusal}
+use Rattle.classes.specs.Refusals.{Test, _one-of_, _none-of_, elem, holds, Refusal, meets, refusal}
 use Rattle.classes.proofs.Tests.{and-l, and-r, and-i, at-true}
 use Rattle.classes.proofs.Boxes.{bit, refusing}
 use Rattle.decode.proofs.Facts.{Fact, Known, sure, sure-holds}
@@ -16,8 +16,8 @@ use Rattle.decode.proofs.Facts.{Fact, Known, sure, sure-holds}
 -- ── the entry that refuses it ──
 
 unfoldable pub sureTest : List Fact → Test → Bool
-sureTest ks (x ∈ vs) = sure ks x (λ a. elem a vs)
-sureTest ks (x ∉ vs) = sure ks x (λ a. not (elem a vs))
+sureTest ks (x one-of vs) = sure ks x (λ a. elem a vs)
+sureTest ks (x none-of vs) = sure ks x (λ a. not (elem a vs))
 
 unfoldable pub sureTests : List Fact → List Test → Bool
 sureTests ks [] = true
@@ -25,8 +25,8 @@ sureTests ks (t ∷ ts) = sureTest ks t && sureTests ks ts
 
 sure-test : (ks : List Fact) (f : Fields) → Known f ks → Fit f → (u : Test) → T (sureTest ks u) → T (holds u f)
 unfolding sureTest holds
-sure-test ks f h i (x ∈ vs) t = sure-holds ks f h i x (λ a. elem a vs) t
-sure-test ks f h i (x ∉ vs) t = sure-holds ks f h i x (λ a. not (elem a vs)) t
+sure-test ks f h i (x one-of vs) t = sure-holds ks f h i x (λ a. elem a vs) t
+sure-test ks f h i (x none-of vs) t = sure-holds ks f h i x (λ a. not (elem a vs)) t
 
 sure-tests : (ks : List Fact) (f : Fields) → Known f ks → Fit f → (us : List Test) → T (sureTests ks us) → T (meets us f)
 unfolding sureTests meets

@@ -8,7 +8,7 @@ use mathlib.Core.Option.{Option, some}
 use lib.Dec.{T}
 use lib.Text.{eqt}
 use Rattle.word.specs.Word.{Field, sameField, Fields}
-use Rattle.classes.specs.Refusals.{Test, _∈_, _∉_, elem, holds, meets, only}
+use Rattle.classes.specs.Refusals.{Test, _one-of_, _none-of_, elem, holds, meets, only}
 use Rattle.classes.proofs.Tests.{and-l, and-r, same-field}
 use Rattle.manual.specs.Page.{Format, Page, defines, Line, has}
 use Rattle.manual.specs.Pages.{pages}
@@ -24,10 +24,10 @@ nothing (t ∷ ts) = false
 
 -- one of two tests is met: a field is one of some values, or none of them
 abbrev opposed : Test → Test → Bool
-opposed (x ∈ vs) (y ∈ us) = false
-opposed (x ∈ vs) (y ∉ us) = sameField x y && sameNumbers vs us
-opposed (x ∉ vs) (y ∈ us) = false
-opposed (x ∉ vs) (y ∉ us) = false
+opposed (x one-of vs) (y one-of us) = false
+opposed (x one-of vs) (y none-of us) = sameField x y && sameNumbers vs us
+opposed (x none-of vs) (y one-of us) = false
+opposed (x none-of vs) (y none-of us) = false
 
 abbrev opposite : List Test → List Test → Bool
 opposite [] us = false
@@ -47,13 +47,13 @@ anyWhen (φ ∷ φs) f = meets (φ .when) f || anyWhen φs f
 
 opposed-met : (t u : Test) (f : Fields) → T (opposed t u) → (holds t f || holds u f) ≡ true
 unfolding holds
-opposed-met (x ∈ vs) (y ∈ us) f h = absurd h
-opposed-met (x ∈ vs) (y ∉ us) f h =
+opposed-met (x one-of vs) (y one-of us) f h = absurd h
+opposed-met (x one-of vs) (y none-of us) f h =
     ap₂ (λ (z : Field) (l : List ℕ). elem (f x) vs || not (elem (f z) l)) (sym (same-field x y (and-l (sameField x y) _ h)))
     (sym (same-numbers vs us (and-r (sameField x y) _ h)))
     ∙ or-not-self (elem (f x) vs)
-opposed-met (x ∉ vs) (y ∈ us) f h = absurd h
-opposed-met (x ∉ vs) (y ∉ us) f h = absurd h
+opposed-met (x none-of vs) (y one-of us) f h = absurd h
+opposed-met (x none-of vs) (y none-of us) f h = absurd h
 
 opposite-met : (ts us : List Test) (f : Fields) → T (opposite ts us) → (meets ts f || meets us f) ≡ true
 unfolding meets
@@ -109,7 +109,7 @@ alias-found [] p f = refl
 alias-found (a ∷ us) p f = go (eqt (a .of-page) (p .name)) (alias-found us p f)
   where
     aliased : Line
-    aliased = record { page = p; name = a .alias; when = a .zero ∈ only 0 ∷ []; args = a .left }
+    aliased = record { page = p; name = a .alias; when = a .zero one-of only 0 ∷ []; args = a .left }
 
     one : (d m r : Bool) → (r || d) ≡ d → (((d && m) || r) || d) ≡ d
     one true true r e = refl

@@ -15,7 +15,7 @@ use Rattle.reading.specs.declared.Op.{Op}
 use Rattle.reading.specs.declared.Op.the-variants.{Reg, Imm}
 use Rattle.classes.specs.Row.{Code, Code-discrete, reg, freg, cop0, num, size, s16, u16, mem, br, jmp, Form, end, _▸_, posSize, link}
 use Rattle.classes.specs.Meaning.{out, outs}
-use Rattle.classes.specs.Refusals.{Test, _∈_, _∉_, elem, holds, meets}
+use Rattle.classes.specs.Refusals.{Test, _one-of_, _none-of_, elem, holds, meets}
 use Rattle.classes.proofs.Tests.{and-l, and-r, decided, same-field}
 use Rattle.manual.specs.Page.{Name, Base, Offset, InstrIndex, sameName, Column, is, box, over, under, part, Page, columnOf, value}
 use Rattle.manual.specs.Page.{Arg, gpr, fpr, fcr, hwr, cp0, cp2, unsigned, signed16, plus, span, offset-base, index-base, pc-relative}
@@ -222,8 +222,8 @@ is31 (v ∷ u ∷ vs) = false
 -- `link` by what the line asks of rd: that it is 31, or that it is not
 abbrev pub linkSlots : List Test → Option (List Slot)
 linkSlots [] = none
-linkSlots (x ∈ vs ∷ []) = cond (sameField x rd && is31 vs) (some (plain (reg rs) ∷ [])) none
-linkSlots (x ∉ vs ∷ []) = cond (sameField x rd && is31 vs) (some (plain (reg rd) ∷ plain (reg rs) ∷ [])) none
+linkSlots (x one-of vs ∷ []) = cond (sameField x rd && is31 vs) (some (plain (reg rs) ∷ [])) none
+linkSlots (x none-of vs ∷ []) = cond (sameField x rd && is31 vs) (some (plain (reg rd) ∷ plain (reg rs) ∷ [])) none
 linkSlots (t ∷ u ∷ ts) = none
 
 unfoldable pub formSlots : List Test → Form → Option (List Slot)
@@ -253,14 +253,14 @@ tested x vs f t =
 link-outs : (ts : List Test) (l : List Slot) → linkSlots ts ≡ some l → (va : ℕ) (f : Fields) → T (meets ts f) → outs link va f ≡ slotOuts va f l
 unfolding meets holds outs slotOut out
 link-outs [] l e va f t = absurd (Option·none-ne-some l e)
-link-outs (x ∈ vs ∷ []) l e va f t =
+link-outs (x one-of vs ∷ []) l e va f t =
     let r = when-some (sameField x rd && is31 vs) (plain (reg rs) ∷ []) l e in
     at-31 (eqb (f rd) 31) (subst T (tested x vs f (r .0)) (and-l (elem (f x) vs) true t)) ∙ ap (slotOuts va f) (r .1)
   where
     at-31 : (b : Bool) → T b → cond b (Reg (f rs) ∷ []) (Reg (f rd) ∷ Reg (f rs) ∷ []) ≡ Reg (f rs) ∷ []
     at-31 true s = refl
     at-31 false s = absurd s
-link-outs (x ∉ vs ∷ []) l e va f t =
+link-outs (x none-of vs ∷ []) l e va f t =
     let r = when-some (sameField x rd && is31 vs) (plain (reg rd) ∷ plain (reg rs) ∷ []) l e in
     elsewhere (eqb (f rd) 31) (subst (λ (b : Bool). T (not b)) (tested x vs f (r .0)) (and-l (not (elem (f x) vs)) true t)) ∙ ap (slotOuts va f) (r .1)
   where

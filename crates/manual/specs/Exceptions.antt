@@ -9,7 +9,7 @@ use Rattle.reading.specs.Kind as kind
 use Rattle.classes.specs.Row.{Form, link}
 use Rattle.classes.specs.Table.{no-operands, one-rs, one-rd, rd-rs, rd-rt, rs-rt, rd-rs-rt, rd-rt-rs, rd-rt-sa, offset, rs-offset, rt-imm, rt-uimm}
 use Rattle.classes.specs.Table.{rt-rs-imm, rt-base, rt-cop0, rt-fs, fd-fs-ft, fd-fs, fs-ft, ext-pos-size, ins-pos-size, rt-hwr}
-use Rattle.classes.specs.Refusals.{Test, _∈_, _∉_, _to_, only}
+use Rattle.classes.specs.Refusals.{Test, _one-of_, _none-of_, _to_, only}
 use Rattle.classes.specs.Unread.{shiftsByConstant, variableShifts, multiplyDivide, traps, movesCop1, bc1Words}
 use Rattle.manual.specs.Page.{Claim, holds, fails, rs-is-rd, rt-is-rd, inside, ordered, Rules, obeys}
 
@@ -89,40 +89,40 @@ narrow-with ts = words off ts []
 
 -- SPECIAL, SPECIAL2, SPECIAL3, COP1X by funct
 abbrev pub special : List ℕ → List Test → List Test
-special fs ts = op ∈ only 0 ∷ fn ∈ fs ∷ ts
+special fs ts = op one-of only 0 ∷ fn one-of fs ∷ ts
 
 abbrev pub special2 : List ℕ → List Test → List Test
-special2 fs ts = op ∈ only 28 ∷ fn ∈ fs ∷ ts
+special2 fs ts = op one-of only 28 ∷ fn one-of fs ∷ ts
 
 abbrev pub special3 : List ℕ → List Test → List Test
-special3 fs ts = op ∈ only 31 ∷ fn ∈ fs ∷ ts
+special3 fs ts = op one-of only 31 ∷ fn one-of fs ∷ ts
 
 abbrev pub cop1x-funct : List ℕ → List Test → List Test
-cop1x-funct fs ts = op ∈ only 19 ∷ fn ∈ fs ∷ ts
+cop1x-funct fs ts = op one-of only 19 ∷ fn one-of fs ∷ ts
 
 -- REGIMM by rt
 abbrev pub regimm : List ℕ → List Test → List Test
-regimm vs ts = op ∈ only 1 ∷ rt ∈ vs ∷ ts
+regimm vs ts = op one-of only 1 ∷ rt one-of vs ∷ ts
 
 -- COP0 and COP1 by rs, COP1 formats by rs and funct
 abbrev pub cop0-rs : List ℕ → List Test → List Test
-cop0-rs vs ts = op ∈ only 16 ∷ rs ∈ vs ∷ ts
+cop0-rs vs ts = op one-of only 16 ∷ rs one-of vs ∷ ts
 
 abbrev pub cop1-rs : List ℕ → List Test → List Test
-cop1-rs vs ts = op ∈ only 17 ∷ rs ∈ vs ∷ ts
+cop1-rs vs ts = op one-of only 17 ∷ rs one-of vs ∷ ts
 
 abbrev pub float : List ℕ → List ℕ → List Test → List Test
-float vs fs ts = op ∈ only 17 ∷ rs ∈ vs ∷ fn ∈ fs ∷ ts
+float vs fs ts = op one-of only 17 ∷ rs one-of vs ∷ fn one-of fs ∷ ts
 
 abbrev pub single-double : List ℕ
 single-double = 16 ∷ 17 ∷ []
 
 -- the field is zero; it is not
 abbrev pub clear : Field → Test
-clear x = x ∈ only 0
+clear x = x one-of only 0
 
 abbrev pub set : Field → Test
-set x = x ∉ only 0
+set x = x none-of only 0
 
 -- the values of five bits whose two low bits are v
 abbrev pub ending-in : ℕ → List ℕ
@@ -150,36 +150,36 @@ difference e x us a = record { exception = e; example = x; words = us; answer = 
 
 unfoldable pub refusedWords : List Difference
 refusedWords =
-    difference movf-movt (narrow 0x00000001) (all-with (special (only 1) (rt ∈ (ending-in 0 ++ ending-in 1) ∷ clear sa ∷ [])) ∷ []) (refused 3) ∷
+    difference movf-movt (narrow 0x00000001) (all-with (special (only 1) (rt one-of (ending-in 0 ++ ending-in 1) ∷ clear sa ∷ [])) ∷ []) (refused 3) ∷
     difference trap-immediates (narrow 0x04080000) (all-with (regimm (8 ∷ 9 ∷ 10 ∷ 11 ∷ 12 ∷ 14 ∷ []) []) ∷ []) (refused 4) ∷
-    difference branch-and-link-likely (narrow 0x04120000) (all-with (regimm (18 ∷ 19 ∷ []) (rs ∉ only 31 ∷ [])) ∷ []) (refused 4) ∷
+    difference branch-and-link-likely (narrow 0x04120000) (all-with (regimm (18 ∷ 19 ∷ []) (rs none-of only 31 ∷ [])) ∷ []) (refused 4) ∷
     difference synci (narrow 0x041f0000) (all-with (regimm (only 31) []) ∷ []) (refused 4) ∷
-    difference dmfc0-dmtc0 (wide 0x40200000) (wide-with (cop0-rs (1 ∷ 5 ∷ []) (clear sa ∷ fn ∈ (0 to 7) ∷ [])) ∷ []) (refused 5) ∷
+    difference dmfc0-dmtc0 (wide 0x40200000) (wide-with (cop0-rs (1 ∷ 5 ∷ []) (clear sa ∷ fn one-of (0 to 7) ∷ [])) ∷ []) (refused 5) ∷
     difference rdpgpr-wrpgpr (narrow 0x41400000) (all-with (cop0-rs (10 ∷ 14 ∷ []) (clear sa ∷ clear fn ∷ [])) ∷ []) (refused 5) ∷
-    difference di-ei (narrow 0x41606000) (all-with (cop0-rs (only 11) (rd ∈ only 12 ∷ clear sa ∷ fn ∈ (0 ∷ 32 ∷ []) ∷ [])) ∷ []) (refused 5) ∷
-    difference tlb-words (narrow 0x42000001) (all-with (cop0-rs (only 16) (clear rt ∷ clear rd ∷ clear sa ∷ fn ∈ (1 ∷ 2 ∷ 6 ∷ 8 ∷ []) ∷ [])) ∷ []) (refused 5) ∷
-    difference deret (narrow 0x4200001f) (all-with (cop0-rs (only 16) (clear rt ∷ clear rd ∷ clear sa ∷ fn ∈ only 31 ∷ [])) ∷ []) (refused 5) ∷
-    difference wait-with-high-code (narrow 0x42200020) (all-with (cop0-rs (17 to 31) (fn ∈ only 32 ∷ [])) ∷ []) (refused 5) ∷
+    difference di-ei (narrow 0x41606000) (all-with (cop0-rs (only 11) (rd one-of only 12 ∷ clear sa ∷ fn one-of (0 ∷ 32 ∷ []) ∷ [])) ∷ []) (refused 5) ∷
+    difference tlb-words (narrow 0x42000001) (all-with (cop0-rs (only 16) (clear rt ∷ clear rd ∷ clear sa ∷ fn one-of (1 ∷ 2 ∷ 6 ∷ 8 ∷ []) ∷ [])) ∷ []) (refused 5) ∷
+    difference deret (narrow 0x4200001f) (all-with (cop0-rs (only 16) (clear rt ∷ clear rd ∷ clear sa ∷ fn one-of only 31 ∷ [])) ∷ []) (refused 5) ∷
+    difference wait-with-high-code (narrow 0x42200020) (all-with (cop0-rs (17 to 31) (fn one-of only 32 ∷ [])) ∷ []) (refused 5) ∷
     difference mfhc1-mthc1 (narrow 0x44600000) (all-with (cop1-rs (3 ∷ 7 ∷ []) (clear sa ∷ clear fn ∷ [])) ∷ []) (refused 6) ∷
     difference to-long-rounded (narrow 0x46000008) (all-with (float single-double (8 to 11) (clear rt ∷ [])) ∷ []) (refused 6) ∷
     difference to-word-rounded (narrow 0x4600000c) (all-with (float single-double (12 ∷ 14 ∷ 15 ∷ []) (clear rt ∷ [])) ∷ []) (refused 6) ∷
     difference float-moves-on-condition (narrow 0x46000011)
-    (all-with (float single-double (only 17) (rt ∈ (ending-in 0 ++ ending-in 1) ∷ [])) ∷ all-with (float single-double (18 ∷ 19 ∷ []) []) ∷ [])
+    (all-with (float single-double (only 17) (rt one-of (ending-in 0 ++ ending-in 1) ∷ [])) ∷ all-with (float single-double (18 ∷ 19 ∷ []) []) ∷ [])
     (refused 6) ∷
     difference recip-rsqrt (narrow 0x46000015) (all-with (float single-double (21 ∷ 22 ∷ []) (clear rt ∷ [])) ∷ []) (refused 6) ∷
     difference cvt-ps-s (narrow 0x46000026) (all-with (float (only 16) (only 38) []) ∷ []) (refused 6) ∷
     difference other-conditions (narrow 0x46000030)
-    (all-with (float single-double (48 ∷ 49 ∷ 51 to 59 ++ 61 ∷ 63 ∷ []) (sa ∈ ending-in 0 ∷ [])) ∷ [])
+    (all-with (float single-double (48 ∷ 49 ∷ 51 to 59 ++ 61 ∷ 63 ∷ []) (sa one-of ending-in 0 ∷ [])) ∷ [])
     (refused 6) ∷
     difference paired-single (narrow 0x46c00000)
     (all-with (float (only 22) (0 ∷ 1 ∷ 2 ∷ 18 ∷ 19 ∷ 44 to 47) []) ∷
     all-with (float (only 22) (5 ∷ 6 ∷ 7 ∷ 32 ∷ 40 ∷ []) (clear rt ∷ [])) ∷
-    all-with (float (only 22) (only 17) (rt ∈ (ending-in 0 ++ ending-in 1) ∷ [])) ∷
-    all-with (float (only 22) (48 to 63) (sa ∈ ending-in 0 ∷ [])) ∷
+    all-with (float (only 22) (only 17) (rt one-of (ending-in 0 ++ ending-in 1) ∷ [])) ∷
+    all-with (float (only 22) (48 to 63) (sa one-of ending-in 0 ∷ [])) ∷
     [])
     (refused 6) ∷
     difference cop2 (narrow 0x48000000)
-    (all-with (op ∈ only 18 ∷ rs ∈ (0 ∷ 2 ∷ 3 ∷ 4 ∷ 6 ∷ 7 ∷ 8 ∷ 16 to 31) ∷ []) ∷ wide-with (op ∈ only 18 ∷ rs ∈ (1 ∷ 5 ∷ []) ∷ []) ∷ [])
+    (all-with (op one-of only 18 ∷ rs one-of (0 ∷ 2 ∷ 3 ∷ 4 ∷ 6 ∷ 7 ∷ 8 ∷ 16 to 31) ∷ []) ∷ wide-with (op one-of only 18 ∷ rs one-of (1 ∷ 5 ∷ []) ∷ []) ∷ [])
     (refused 2) ∷
     difference cop1x (narrow 0x4c000000)
     (all-with (cop1x-funct (0 ∷ 1 ∷ 5 ∷ []) (clear rd ∷ [])) ∷
@@ -196,43 +196,43 @@ refusedWords =
     difference dins-words (wide 0x7c000005)
     (wide-with (special3 (only 5) []) ∷ words on (special3 (6 ∷ 7 ∷ []) []) (holds ordered ∷ []) ∷ [])
     (refused 8) ∷
-    difference dsbh-dshd (wide 0x7c0000a4) (wide-with (special3 (only 36) (clear rs ∷ sa ∈ (2 ∷ 5 ∷ []) ∷ [])) ∷ []) (refused 8) ∷
-    difference cop2-loads-and-stores (narrow 0xc8000000) (all-with (op ∈ (50 ∷ 54 ∷ 58 ∷ 62 ∷ []) ∷ []) ∷ []) (refused 2) ∷
+    difference dsbh-dshd (wide 0x7c0000a4) (wide-with (special3 (only 36) (clear rs ∷ sa one-of (2 ∷ 5 ∷ []) ∷ [])) ∷ []) (refused 8) ∷
+    difference cop2-loads-and-stores (narrow 0xc8000000) (all-with (op one-of (50 ∷ 54 ∷ 58 ∷ 62 ∷ []) ∷ []) ∷ []) (refused 2) ∷
     []
 
 -- ── both define it, the reading differs or leaves a field out ──
 
 unfoldable pub otherReadings : List Difference
 otherReadings =
-    difference rotrv-as-srlv (narrow 0x00000046) (all-with (special (only 6) (sa ∈ only 1 ∷ [])) ∷ []) (reading-as (only kind.srlv) rd-rt-rs) ∷
-    difference drotrv-as-dsrlv (wide 0x00000056) (all-with (special (only 22) (sa ∈ only 1 ∷ [])) ∷ []) (reading-as (only kind.dsrlv) rd-rt-rs) ∷
-    difference drotr-as-dsrl (wide 0x0020003a) (all-with (special (only 58) (rs ∈ only 1 ∷ [])) ∷ []) (reading-as (only kind.dsrl) rd-rt-sa) ∷
-    difference drotr32-as-dsrl32 (wide 0x0020003e) (all-with (special (only 62) (rs ∈ only 1 ∷ [])) ∷ []) (reading-as (only kind.dsrl32) rd-rt-sa) ∷
+    difference rotrv-as-srlv (narrow 0x00000046) (all-with (special (only 6) (sa one-of only 1 ∷ [])) ∷ []) (reading-as (only kind.srlv) rd-rt-rs) ∷
+    difference drotrv-as-dsrlv (wide 0x00000056) (all-with (special (only 22) (sa one-of only 1 ∷ [])) ∷ []) (reading-as (only kind.dsrlv) rd-rt-rs) ∷
+    difference drotr-as-dsrl (wide 0x0020003a) (all-with (special (only 58) (rs one-of only 1 ∷ [])) ∷ []) (reading-as (only kind.dsrl) rd-rt-sa) ∷
+    difference drotr32-as-dsrl32 (wide 0x0020003e) (all-with (special (only 62) (rs one-of only 1 ∷ [])) ∷ []) (reading-as (only kind.dsrl32) rd-rt-sa) ∷
     difference ehb-as-sll (narrow 0x000000c0)
-    (all-with (special (only 0) (clear rs ∷ clear rt ∷ clear rd ∷ sa ∈ only 3 ∷ [])) ∷ [])
+    (all-with (special (only 0) (clear rs ∷ clear rt ∷ clear rd ∷ sa one-of only 3 ∷ [])) ∷ [])
     (reading-as (only kind.sll) rd-rt-sa) ∷
     difference pause-as-sll (narrow 0x00000140)
-    (all-with (special (only 0) (clear rs ∷ clear rt ∷ clear rd ∷ sa ∈ only 5 ∷ [])) ∷ [])
+    (all-with (special (only 0) (clear rs ∷ clear rt ∷ clear rd ∷ sa one-of only 5 ∷ [])) ∷ [])
     (reading-as (only kind.sll) rd-rt-sa) ∷
-    difference jr-hb-as-jr (narrow 0x00000408) (all-with (special (only 8) (clear rt ∷ clear rd ∷ sa ∈ only 16 ∷ [])) ∷ []) (reading-as (only kind.jr) one-rs) ∷
+    difference jr-hb-as-jr (narrow 0x00000408) (all-with (special (only 8) (clear rt ∷ clear rd ∷ sa one-of only 16 ∷ [])) ∷ []) (reading-as (only kind.jr) one-rs) ∷
     difference jalr-hb-as-jalr (narrow 0x00000c09)
-    (words either (special (only 9) (clear rt ∷ sa ∈ only 16 ∷ [])) (fails rs-is-rd ∷ []) ∷ [])
+    (words either (special (only 9) (clear rt ∷ sa one-of only 16 ∷ [])) (fails rs-is-rd ∷ []) ∷ [])
     (reading-as (only kind.jalr) link) ∷
     difference sync-stype (narrow 0x0000004f)
     (all-with (special (only 15) (clear rs ∷ clear rt ∷ clear rd ∷ set sa ∷ [])) ∷ [])
     (reading-as (only kind.sync) no-operands) ∷
     difference cop0-sel (narrow 0x40000001)
-    (all-with (cop0-rs (0 ∷ 4 ∷ []) (clear sa ∷ fn ∈ (1 to 7) ∷ [])) ∷ [])
+    (all-with (cop0-rs (0 ∷ 4 ∷ []) (clear sa ∷ fn one-of (1 to 7) ∷ [])) ∷ [])
     (reading-as (kind.mfc0 ∷ kind.mtc0 ∷ []) rt-cop0) ∷
-    difference branch-cc (narrow 0x45040000) (all-with (cop1-rs (only 8) (rt ∈ (4 to 31) ∷ [])) ∷ []) (reading-as bc1Words offset) ∷
+    difference branch-cc (narrow 0x45040000) (all-with (cop1-rs (only 8) (rt one-of (4 to 31) ∷ [])) ∷ []) (reading-as bc1Words offset) ∷
     difference compare-cc (narrow 0x46000132)
-    (all-with (float single-double (50 ∷ 60 ∷ 62 ∷ []) (sa ∈ ending-in 0 ∷ set sa ∷ [])) ∷ [])
+    (all-with (float single-double (50 ∷ 60 ∷ 62 ∷ []) (sa one-of ending-in 0 ∷ set sa ∷ [])) ∷ [])
     (reading-as (kind.c-eq-s ∷ kind.c-lt-s ∷ kind.c-le-s ∷ kind.c-eq-d ∷ kind.c-lt-d ∷ kind.c-le-d ∷ []) fs-ft) ∷
     difference control-register-as-float (narrow 0x44400000)
-    (all-with (cop1-rs (2 ∷ 6 ∷ []) (rd ∈ (0 ∷ 25 ∷ 26 ∷ 28 ∷ 31 ∷ []) ∷ clear sa ∷ clear fn ∷ [])) ∷ [])
+    (all-with (cop1-rs (2 ∷ 6 ∷ []) (rd one-of (0 ∷ 25 ∷ 26 ∷ 28 ∷ 31 ∷ []) ∷ clear sa ∷ clear fn ∷ [])) ∷ [])
     (reading-as (kind.cfc1 ∷ kind.ctc1 ∷ []) rt-fs) ∷
     difference hardware-register-as-number (narrow 0x7c00003b)
-    (all-with (special3 (only 59) (clear rs ∷ rd ∉ (4 to 28) ∷ clear sa ∷ [])) ∷ [])
+    (all-with (special3 (only 59) (clear rs ∷ rd none-of (4 to 28) ∷ clear sa ∷ [])) ∷ [])
     (reading-as (only kind.rdhwr) rt-hwr) ∷
     difference syscall-break-code (narrow 0x0000004c)
     (all-with (special (12 ∷ 13 ∷ []) (set rs ∷ [])) ∷
@@ -245,9 +245,9 @@ otherReadings =
     (all-with (special (48 to 52 ++ 54 ∷ []) (set rd ∷ [])) ∷ all-with (special (48 to 52 ++ 54 ∷ []) (set sa ∷ [])) ∷ [])
     (reading-as traps rs-rt) ∷
     difference wait-code (narrow 0x42000060)
-    (all-with (cop0-rs (only 16) (fn ∈ only 32 ∷ set rt ∷ [])) ∷
-    all-with (cop0-rs (only 16) (fn ∈ only 32 ∷ set rd ∷ [])) ∷
-    all-with (cop0-rs (only 16) (fn ∈ only 32 ∷ set sa ∷ [])) ∷
+    (all-with (cop0-rs (only 16) (fn one-of only 32 ∷ set rt ∷ [])) ∷
+    all-with (cop0-rs (only 16) (fn one-of only 32 ∷ set rd ∷ [])) ∷
+    all-with (cop0-rs (only 16) (fn one-of only 32 ∷ set sa ∷ [])) ∷
     [])
     (reading-as (only kind.wait) no-operands) ∷
     difference bgez-zero-as-b (narrow 0x04010000) (all-with (regimm (only 1) (clear rs ∷ [])) ∷ []) (reading-as (only kind.b) offset) ∷
@@ -258,10 +258,10 @@ otherReadings =
 unfoldable pub reservedWords : List Difference
 reservedWords =
     difference shift-with-rs (narrow 0x00200000)
-    (all-with (special (0 ∷ 3 ∷ 56 ∷ 59 ∷ 60 ∷ 63 ∷ []) (set rs ∷ [])) ∷ all-with (special (2 ∷ 58 ∷ 62 ∷ []) (rs ∈ (2 to 31) ∷ [])) ∷ [])
+    (all-with (special (0 ∷ 3 ∷ 56 ∷ 59 ∷ 60 ∷ 63 ∷ []) (set rs ∷ [])) ∷ all-with (special (2 ∷ 58 ∷ 62 ∷ []) (rs one-of (2 to 31) ∷ [])) ∷ [])
     (reading-as shiftsByConstant rd-rt-sa) ∷
     difference variable-shift-with-sa (narrow 0x00000044)
-    (all-with (special (4 ∷ 7 ∷ 20 ∷ 23 ∷ []) (set sa ∷ [])) ∷ all-with (special (6 ∷ 22 ∷ []) (sa ∈ (2 to 31) ∷ [])) ∷ [])
+    (all-with (special (4 ∷ 7 ∷ 20 ∷ 23 ∷ []) (set sa ∷ [])) ∷ all-with (special (6 ∷ 22 ∷ []) (sa one-of (2 to 31) ∷ [])) ∷ [])
     (reading-as variableShifts rd-rt-rs) ∷
     difference three-registers-with-sa (narrow 0x0000004a)
     (all-with (special (10 ∷ 11 ∷ 32 to 39 ++ 42 to 47) (set sa ∷ [])) ∷ [])
@@ -276,14 +276,14 @@ reservedWords =
     difference jr-with-zero-bits-set (narrow 0x00000048)
     (all-with (special (only 8) (set rt ∷ [])) ∷
     all-with (special (only 8) (set rd ∷ [])) ∷
-    all-with (special (only 8) (sa ∉ (0 ∷ 16 ∷ []) ∷ [])) ∷
+    all-with (special (only 8) (sa none-of (0 ∷ 16 ∷ []) ∷ [])) ∷
     [])
     (reading-as (only kind.jr) one-rs) ∷
     difference jalr-with-zero-bits-set (narrow 0x00000049)
-    (all-with (special (only 9) (set rt ∷ [])) ∷ all-with (special (only 9) (sa ∉ (0 ∷ 16 ∷ []) ∷ [])) ∷ [])
+    (all-with (special (only 9) (set rt ∷ [])) ∷ all-with (special (only 9) (sa none-of (0 ∷ 16 ∷ []) ∷ [])) ∷ [])
     (reading-as (only kind.jalr) link) ∷
     difference jalr-same-register (narrow 0x00000009)
-    (words either (special (only 9) (clear rt ∷ sa ∈ (0 ∷ 16 ∷ []) ∷ [])) (holds rs-is-rd ∷ []) ∷ [])
+    (words either (special (only 9) (clear rt ∷ sa one-of (0 ∷ 16 ∷ []) ∷ [])) (holds rs-is-rd ∷ []) ∷ [])
     (reading-as (only kind.jalr) link) ∷
     difference sync-with-zero-bits-set (narrow 0x0000080f)
     (all-with (special (only 15) (set rs ∷ [])) ∷ all-with (special (only 15) (set rt ∷ [])) ∷ all-with (special (only 15) (set rd ∷ [])) ∷ [])
@@ -304,26 +304,26 @@ reservedWords =
     (all-with (special (24 to 31) (set rd ∷ [])) ∷ all-with (special (24 to 31) (set sa ∷ [])) ∷ [])
     (reading-as multiplyDivide rs-rt) ∷
     difference link-branch-on-31 (narrow 0x07f00000)
-    (all-with (regimm (16 ∷ 17 ∷ []) (rs ∈ only 31 ∷ [])) ∷ [])
+    (all-with (regimm (16 ∷ 17 ∷ []) (rs one-of only 31 ∷ [])) ∷ [])
     (reading-as (kind.bltzal ∷ kind.bgezal ∷ []) rs-offset) ∷
     difference blez-with-rt (narrow 0x18010000)
-    (all-with (op ∈ (6 ∷ 7 ∷ 22 ∷ 23 ∷ []) ∷ set rt ∷ []) ∷ [])
+    (all-with (op one-of (6 ∷ 7 ∷ 22 ∷ 23 ∷ []) ∷ set rt ∷ []) ∷ [])
     (reading-as (kind.blez ∷ kind.bgtz ∷ kind.blezl ∷ kind.bgtzl ∷ []) rs-offset) ∷
-    difference lui-with-rs (narrow 0x3c200000) (all-with (op ∈ only 15 ∷ set rs ∷ []) ∷ []) (reading-as (only kind.lui) rt-uimm) ∷
+    difference lui-with-rs (narrow 0x3c200000) (all-with (op one-of only 15 ∷ set rs ∷ []) ∷ []) (reading-as (only kind.lui) rt-uimm) ∷
     difference cop0-move-with-zero-bits-set (narrow 0x40000008)
-    (all-with (cop0-rs (0 ∷ 4 ∷ []) (set sa ∷ [])) ∷ all-with (cop0-rs (0 ∷ 4 ∷ []) (fn ∉ (0 to 7) ∷ [])) ∷ [])
+    (all-with (cop0-rs (0 ∷ 4 ∷ []) (set sa ∷ [])) ∷ all-with (cop0-rs (0 ∷ 4 ∷ []) (fn none-of (0 to 7) ∷ [])) ∷ [])
     (reading-as (kind.mfc0 ∷ kind.mtc0 ∷ []) rt-cop0) ∷
     difference eret-with-zero-bits-set (narrow 0x42000058)
-    (all-with (cop0-rs (only 16) (fn ∈ only 24 ∷ set rt ∷ [])) ∷
-    all-with (cop0-rs (only 16) (fn ∈ only 24 ∷ set rd ∷ [])) ∷
-    all-with (cop0-rs (only 16) (fn ∈ only 24 ∷ set sa ∷ [])) ∷
+    (all-with (cop0-rs (only 16) (fn one-of only 24 ∷ set rt ∷ [])) ∷
+    all-with (cop0-rs (only 16) (fn one-of only 24 ∷ set rd ∷ [])) ∷
+    all-with (cop0-rs (only 16) (fn one-of only 24 ∷ set sa ∷ [])) ∷
     [])
     (reading-as (only kind.eret) no-operands) ∷
     difference cop1-move-with-zero-bits-set (narrow 0x44000001)
     (all-with (cop1-rs (0 ∷ 1 ∷ 2 ∷ 4 ∷ 5 ∷ 6 ∷ []) (set sa ∷ [])) ∷ all-with (cop1-rs (0 ∷ 1 ∷ 2 ∷ 4 ∷ 5 ∷ 6 ∷ []) (set fn ∷ [])) ∷ [])
     (reading-as movesCop1 rt-fs) ∷
     difference no-such-control-register (narrow 0x44400800)
-    (all-with (cop1-rs (2 ∷ 6 ∷ []) (rd ∉ (0 ∷ 25 ∷ 26 ∷ 28 ∷ 31 ∷ []) ∷ clear sa ∷ clear fn ∷ [])) ∷ [])
+    (all-with (cop1-rs (2 ∷ 6 ∷ []) (rd none-of (0 ∷ 25 ∷ 26 ∷ 28 ∷ 31 ∷ []) ∷ clear sa ∷ clear fn ∷ [])) ∷ [])
     (reading-as (kind.cfc1 ∷ kind.ctc1 ∷ []) rt-fs) ∷
     difference one-source-with-ft (narrow 0x46010004)
     (all-with (float single-double (4 to 7 ++ 13 ∷ 36 ∷ 37 ∷ []) (set rt ∷ [])) ∷
@@ -336,7 +336,7 @@ reservedWords =
     kind.cvt-s-l ∷ kind.cvt-d-l ∷ [])
     fd-fs) ∷
     difference compare-with-zero-bits-set (narrow 0x46000072)
-    (all-with (float single-double (50 ∷ 60 ∷ 62 ∷ []) (sa ∉ ending-in 0 ∷ [])) ∷ [])
+    (all-with (float single-double (50 ∷ 60 ∷ 62 ∷ []) (sa none-of ending-in 0 ∷ [])) ∷ [])
     (reading-as (kind.c-eq-s ∷ kind.c-lt-s ∷ kind.c-le-s ∷ kind.c-eq-d ∷ kind.c-lt-d ∷ kind.c-le-d ∷ []) fs-ft) ∷
     difference reserved-format (narrow 0x46000020)
     (all-with (float (only 16) (only 32) []) ∷
@@ -362,20 +362,20 @@ reservedWords =
     difference ext-past-32 (narrow 0x7c000fc0) (words either (special3 (only 0) []) (fails inside ∷ []) ∷ []) (reading-as (only kind.ext) ext-pos-size) ∷
     difference ins-size-below-1 (narrow 0x7c000044) (words either (special3 (only 4) []) (fails ordered ∷ []) ∷ []) (reading-as (only kind.ins) ins-pos-size) ∷
     difference swap-extend-with-rs (narrow 0x7c2000a0)
-    (all-with (special3 (only 32) (set rs ∷ sa ∈ (2 ∷ 16 ∷ 24 ∷ []) ∷ [])) ∷ [])
+    (all-with (special3 (only 32) (set rs ∷ sa one-of (2 ∷ 16 ∷ 24 ∷ []) ∷ [])) ∷ [])
     (reading-as (kind.wsbh ∷ kind.seb ∷ kind.seh ∷ []) rd-rt) ∷
     difference rdhwr-with-zero-bits-set (narrow 0x7c00007b)
     (all-with (special3 (only 59) (set rs ∷ [])) ∷ all-with (special3 (only 59) (set sa ∷ [])) ∷ [])
     (reading-as (only kind.rdhwr) rt-hwr) ∷
     difference no-such-hardware-register (narrow 0x7c00203b)
-    (all-with (special3 (only 59) (clear rs ∷ rd ∈ (4 to 28) ∷ clear sa ∷ [])) ∷ [])
+    (all-with (special3 (only 59) (clear rs ∷ rd one-of (4 to 28) ∷ clear sa ∷ [])) ∷ [])
     (reading-as (only kind.rdhwr) rt-hwr) ∷
     difference mips64-without-flag (narrow 0x00000014)
     (narrow-with (special (20 ∷ 22 ∷ 23 ∷ 44 to 47) (clear sa ∷ [])) ∷
     narrow-with (special (28 to 31) (clear rd ∷ clear sa ∷ [])) ∷
     narrow-with (special (56 ∷ 58 ∷ 59 ∷ 60 ∷ 62 ∷ 63 ∷ []) (clear rs ∷ [])) ∷
     narrow-with (cop1-rs (1 ∷ 5 ∷ []) (clear sa ∷ clear fn ∷ [])) ∷
-    narrow-with (op ∈ (24 to 27 ++ 39 ∷ 44 ∷ 45 ∷ 52 ∷ 55 ∷ 60 ∷ 63 ∷ []) ∷ []) ∷
+    narrow-with (op one-of (24 to 27 ++ 39 ∷ 44 ∷ 45 ∷ 52 ∷ 55 ∷ 60 ∷ 63 ∷ []) ∷ []) ∷
     [])
     (reads
     (sort (kind.dsllv ∷ kind.dsrlv ∷ kind.dsrav ∷ []) rd-rt-rs ∷

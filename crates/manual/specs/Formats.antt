@@ -2,7 +2,7 @@
 -- Assumes nothing.
 use mathlib.Core.List.{List, [], _∷_}
 use Rattle.word.specs.Word.{rs, rt, rd, sa, fn}
-use Rattle.classes.specs.Refusals.{Test, _∈_, _∉_, _to_, only}
+use Rattle.classes.specs.Refusals.{Test, _one-of_, _none-of_, _to_, only}
 use Rattle.manual.specs.Page.{Rs, Rt, Rd, Sa, Immediate, Fs, Ft, Fd, Fr, Hint, CacheOp, Cc, Code, Stype, Sel, Impl, Cofun, Msbd, Msb, Lsb}
 use Rattle.manual.specs.Page.{Arg, gpr, fpr, fcr, hwr, cp0, cp2, unsigned, signed16, plus, span, offset-base, index-base, pc-relative}
 use Rattle.manual.specs.Page.{in-region}
@@ -160,33 +160,33 @@ dinsu-pos-size = single (gpr Rt ∷ gpr Rs ∷ plus 32 Lsb ∷ span 0 Msb Lsb �
 
 -- two lines, of which the shorter implies a value: rt, cc, sel, stype 0, rd 31
 abbrev pub rt-alone : List Format
-rt-alone = two (rt ∈ only 0 ∷ []) [] (gpr Rt ∷ [])
+rt-alone = two (rt one-of only 0 ∷ []) [] (gpr Rt ∷ [])
 
 abbrev pub cc-offset : List Format
-cc-offset = two (rt ∈ (0 to 3) ∷ []) (pc-relative ∷ []) (unsigned Cc ∷ pc-relative ∷ [])
+cc-offset = two (rt one-of (0 to 3) ∷ []) (pc-relative ∷ []) (unsigned Cc ∷ pc-relative ∷ [])
 
 abbrev pub cc-fs-ft : List Format
-cc-fs-ft = two (sa ∈ only 0 ∷ []) (fpr Fs ∷ fpr Ft ∷ []) (unsigned Cc ∷ fpr Fs ∷ fpr Ft ∷ [])
+cc-fs-ft = two (sa one-of only 0 ∷ []) (fpr Fs ∷ fpr Ft ∷ []) (unsigned Cc ∷ fpr Fs ∷ fpr Ft ∷ [])
 
 abbrev pub rt-rd-sel : List Format
-rt-rd-sel = two (fn ∈ only 0 ∷ []) (gpr Rt ∷ cp0 Rd ∷ []) (gpr Rt ∷ cp0 Rd ∷ unsigned Sel ∷ [])
+rt-rd-sel = two (fn one-of only 0 ∷ []) (gpr Rt ∷ cp0 Rd ∷ []) (gpr Rt ∷ cp0 Rd ∷ unsigned Sel ∷ [])
 
 abbrev pub stype-alone : List Format
-stype-alone = two (sa ∈ only 0 ∷ []) [] (unsigned Stype ∷ [])
+stype-alone = two (sa one-of only 0 ∷ []) [] (unsigned Stype ∷ [])
 
 abbrev pub link-rs : List Format
-link-rs = line-for (rd ∈ only 31 ∷ []) (gpr Rs ∷ []) ∷ line-for (rd ∉ only 31 ∷ []) (gpr Rd ∷ gpr Rs ∷ []) ∷ []
+link-rs = line-for (rd one-of only 31 ∷ []) (gpr Rs ∷ []) ∷ line-for (rd none-of only 31 ∷ []) (gpr Rd ∷ gpr Rs ∷ []) ∷ []
 
 -- the page has a code that its Format line does not: zero if nothing is to be left out
 abbrev pub code20 : List Format
-code20 = two (rs ∈ only 0 ∷ rt ∈ only 0 ∷ rd ∈ only 0 ∷ sa ∈ only 0 ∷ []) [] []
+code20 = two (rs one-of only 0 ∷ rt one-of only 0 ∷ rd one-of only 0 ∷ sa one-of only 0 ∷ []) [] []
 
 -- rs is then the CO bit alone
 abbrev pub code19 : List Format
-code19 = two (rs ∈ only 16 ∷ rt ∈ only 0 ∷ rd ∈ only 0 ∷ sa ∈ only 0 ∷ []) [] []
+code19 = two (rs one-of only 16 ∷ rt one-of only 0 ∷ rd one-of only 0 ∷ sa one-of only 0 ∷ []) [] []
 
 abbrev pub rs-rt-code10 : List Format
-rs-rt-code10 = two (rd ∈ only 0 ∷ sa ∈ only 0 ∷ []) (gpr Rs ∷ gpr Rt ∷ []) (gpr Rs ∷ gpr Rt ∷ [])
+rs-rt-code10 = two (rd one-of only 0 ∷ sa one-of only 0 ∷ []) (gpr Rs ∷ gpr Rt ∷ []) (gpr Rs ∷ gpr Rt ∷ [])
 
 -- ── Restrictions ──
 
@@ -198,7 +198,7 @@ always = rules [] []
 
 -- register 31 must not be used for rs: the branch could not be restarted
 abbrev pub rs-not-31 : Rules
-rs-not-31 = rules (rs ∉ only 31 ∷ []) []
+rs-not-31 = rules (rs none-of only 31 ∷ []) []
 
 -- rs and rd must not be equal, for the same reason
 abbrev pub rs-not-rd : Rules
@@ -218,8 +218,8 @@ size-positive = rules [] (holds ordered ∷ [])
 
 -- fs is one of the control registers: FIR, FCCR, FEXR, FENR, FCSR
 abbrev pub control-register : Rules
-control-register = rules (rd ∈ (0 ∷ 25 ∷ 26 ∷ 28 ∷ 31 ∷ []) ∷ []) []
+control-register = rules (rd one-of (0 ∷ 25 ∷ 26 ∷ 28 ∷ 31 ∷ []) ∷ []) []
 
 -- rd is one of the hardware registers: CPUNum, SYNCI_Step, CC, CCRes, and from 29 on those of the system and the implementation
 abbrev pub hardware-register : Rules
-hardware-register = rules (rd ∉ (4 to 28) ∷ []) []
+hardware-register = rules (rd none-of (4 to 28) ∷ []) []

@@ -9,7 +9,7 @@ use lib.IntN.{ℤ, pos}
 use Rattle.word.specs.Word.{Field, sameField, op, rs, rt, rd, sa, fn, Fields, room}
 use Rattle.word.specs.Numbers.{signed, branchTo, jumpTo, sizeOf}
 use Rattle.classes.specs.Meaning.{six}
-use Rattle.classes.specs.Refusals.{Test, _∈_, _∉_, meets}
+use Rattle.classes.specs.Refusals.{Test, _one-of_, _none-of_, meets}
 
 -- ── the drawing ──
 
@@ -204,8 +204,8 @@ oneAbove k (v ∷ u ∷ vs) = eqb (v / 2 ^ k) (u / 2 ^ k) && oneAbove k (u ∷ v
 -- the line is only for words with one value in the column, but for so many low bits
 unfoldable pub implied : List Test → ℕ → Field → Bool
 implied [] k x = false
-implied (y ∈ vs ∷ ts) k x = (sameField y x && oneAbove k vs) || implied ts k x
-implied (y ∉ vs ∷ ts) k x = implied ts k x
+implied (y one-of vs ∷ ts) k x = (sameField y x && oneAbove k vs) || implied ts k x
+implied (y none-of vs ∷ ts) k x = implied ts k x
 
 -- the Restrictions want rt to be what rd is
 unfoldable pub tied : List Claim → Field → Bool
