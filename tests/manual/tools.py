@@ -1,4 +1,6 @@
-"""Read what the disassemblers print: for each word nothing, if the tool does not know it, or its mnemonic and its operands."""
+"""Read what the tools print. Of the disassemblers: for each word nothing, if the tool does not know it, or its mnemonic and its
+operands. Of the assembler: for each line its words, and what is said of it."""
+import collections
 import functools
 import re
 
@@ -20,6 +22,11 @@ LLVM_LINE = re.compile(r"\t(\S+)\s*(.*)\n")
 LLVM_DIRECTIVES = ("\t.text", "\t.set")
 LLVM_MESSAGE = re.compile(r"^[^:\n]+:(\d+):(\d+): (\w+): (.*)$", re.M)
 LLVM_UNKNOWN = ("1", "warning", "invalid instruction encoding")
+# a line of the assembler's listing: number, address, word, text; without a word if it makes none, and only with it if it makes more
+AS_LINE = re.compile(r" *(\d+) (?:(?:\S+| +) ([0-9A-F]{8}) | +)(?:\t.*)?\n")
+AS_REMARK = "****"  # a warning, once more
+AS_HEADING = re.compile(r"[^:]+: Assembler messages:")
+AS_MESSAGE = re.compile(r"[^:]+:(\d+): (Error|Warning): (.*)")
 
 
 @functools.lru_cache(maxsize=None)
@@ -64,3 +71,27 @@ def read_llvm(printed, messages, words):
     assert len(lines) + len(unknown) == len(words), f"{printed}: {len(lines)} lines and {len(unknown)} messages"
     rest = iter(lines)
     return [None if number in unknown else next(rest) for number in range(1, len(words) + 1)]
+
+
+def read_messages(path):
+    """What the assembler says on standard error: the messages of each line, as (Error or Warning, text)."""
+    with open(path, encoding="ascii") as file:
+        said = file.read().splitlines()
+    assert not said or AS_HEADING.fullmatch(said[0]), f"{path}: {said[0]}"
+    found = collections.defaultdict(list)
+    for line in said[1:]:
+        number, kind, text = AS_MESSAGE.fullmatch(line).groups()
+        found[int(number)].append((kind, text))
+    return found
+
+
+def read_assembler(listing, messages, count):
+    """(words, messages) of each of so many lines; a line that is refused has no word."""
+    words = collections.defaultdict(list)
+    with open(listing, encoding="ascii") as file:
+        for number, word in (AS_LINE.fullmatch(line).groups() for line in file if not line.startswith(AS_REMARK)):
+            words[int(number)] += [int(word, 16)] if word else []
+    said = read_messages(messages)
+    assert set(words) == set(range(1, count + 1)), f"{listing}: {len(words)} lines of {count}"
+    assert said.keys() <= words.keys(), f"{messages}: a message of a line that is not there"
+    return [(words[number], said[number]) for number in range(1, count + 1)]
