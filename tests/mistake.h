@@ -1,7 +1,8 @@
-/* Which mistake the library is to make, for wrong.c of tests/host and tests/pages. */
+/* Which mistake the library is to make, for wrong.c of tests/host, tests/pages and tests/threads. */
 #ifndef MISTAKE_H
 #define MISTAKE_H
 
+#include <stdint.h>
 #include <stdio.h>
 #include <stdlib.h>
 
@@ -9,6 +10,17 @@
 #define WRAPPED(type, name, ...)                 \
     type __wrap_calmuredda_##name(__VA_ARGS__); \
     type __real_calmuredda_##name(__VA_ARGS__)
+
+WRAPPED(uint8_t, decode, const uint8_t *, size_t, uint64_t, uint8_t, uint8_t, uint8_t *, size_t);
+WRAPPED(uint64_t, encode, const uint8_t *, size_t, uint64_t, uint8_t);
+WRAPPED(uint8_t, line, const uint8_t *, size_t, uint8_t *, size_t, size_t *);
+WRAPPED(uint8_t, section_check, const uint8_t *, size_t);
+WRAPPED(size_t, section_count, const uint8_t *, size_t);
+WRAPPED(uint8_t, section_flags, const uint8_t *, size_t);
+WRAPPED(uint64_t, section_address, const uint8_t *, size_t, size_t);
+WRAPPED(uint8_t, section_body, const uint8_t *, size_t, size_t, size_t *, size_t *);
+WRAPPED(uint8_t, block, const uint8_t *, size_t, uint64_t, uint8_t, uint8_t, size_t, uint8_t *, size_t *);
+WRAPPED(uint8_t, page, const uint8_t *, size_t, uint64_t, uint8_t, uint8_t, size_t, uint8_t *, size_t, size_t, size_t *, size_t *);
 
 /* The number in the environment's MISTAKE, from 1 to the last. */
 static int mistake_up_to(int last)

@@ -45,9 +45,6 @@ enum {
 };
 static const uint32_t all_but_rs_and_rd = 0xfc1f07ff;
 
-WRAPPED(uint8_t, decode, const uint8_t *, size_t, uint64_t, uint8_t, uint8_t, uint8_t *, size_t);
-WRAPPED(uint64_t, encode, const uint8_t *, size_t, uint64_t, uint8_t);
-
 static int mistake(void)
 {
     return mistake_up_to(LAST);

@@ -2,6 +2,7 @@
    stands in them. What a call writes to lies, in every second call, up to the end of what can be touched. */
 #define _GNU_SOURCE
 #include "../lent.h"
+#include "../splitmix.h"
 #include "calmuredda.h"
 
 /* Once more, so that a header which says otherwise does not compile. */
@@ -361,14 +362,10 @@ static void every_page(void)
     }
 }
 
-/* The generator splitmix64. */
 static uint64_t below(uint64_t limit)
 {
     static uint64_t state = 20261115;
-    uint64_t z = state += 0x9e3779b97f4a7c15;
-    z = (z ^ (z >> 30)) * 0xbf58476d1ce4e5b9;
-    z = (z ^ (z >> 27)) * 0x94d049bb133111eb;
-    return (z ^ (z >> 31)) % limit;
+    return splitmix(&state) % limit;
 }
 
 static void random_pages(void)

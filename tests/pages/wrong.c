@@ -50,15 +50,6 @@ enum {
 
 enum { FLAGS_AT = 2, WORD_BYTES = 4 };
 
-WRAPPED(uint8_t, line, const uint8_t *, size_t, uint8_t *, size_t, size_t *);
-WRAPPED(uint8_t, section_check, const uint8_t *, size_t);
-WRAPPED(size_t, section_count, const uint8_t *, size_t);
-WRAPPED(uint8_t, section_flags, const uint8_t *, size_t);
-WRAPPED(uint64_t, section_address, const uint8_t *, size_t, size_t);
-WRAPPED(uint8_t, section_body, const uint8_t *, size_t, size_t, size_t *, size_t *);
-WRAPPED(uint8_t, block, const uint8_t *, size_t, uint64_t, uint8_t, uint8_t, size_t, uint8_t *, size_t *);
-WRAPPED(uint8_t, page, const uint8_t *, size_t, uint64_t, uint8_t, uint8_t, size_t, uint8_t *, size_t, size_t, size_t *, size_t *);
-
 static int is(int number)
 {
     return mistake_up_to(LAST) == number;
