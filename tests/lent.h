@@ -1,4 +1,4 @@
-/* Memory as a call of the library is lent it, for tests/host and tests/pages.
+/* Memory as a call of the library is lent it, for tests/host, tests/pages and tests/threads.
 
    What a call reads lies in memory that cannot be written, between memory that cannot be touched at all, once up to the very end
    and once at any alignment near the start. What it writes to lies inside a pattern, all of which is compared afterwards. */
@@ -61,8 +61,9 @@ static void make_lent(void)
     need(lent_writable != MAP_FAILED && lent != MAP_FAILED, "mmap");
 }
 
-/* The bytes as the library is given them: up to the end in every second call, else near the start. */
-static const uint8_t *lend(const uint8_t *bytes, size_t length)
+/* The bytes as the library is given them: up to the end in every second call, else near the start. For one thread: tests/threads, which
+   lends the same bytes to all its calls, does without. */
+static inline const uint8_t *lend(const uint8_t *bytes, size_t length)
 {
     size_t at = calls % 2 == 0 ? LENT_BYTES - length : calls / 2 % ALIGNMENTS;
     if (length == 0 && calls % NULL_INPUT_EVERY == 0) {
