@@ -8,33 +8,33 @@ use native.Mathlib.Omega.{arith}
 use lib.ListN.{length, take, drop, getD, length-drop}
 use borrow.Author.Tests.{le-leb, lt-leb}
 use lib.Seq.{drop-cons, drop-drop, length-take-le, take-add}
-use Rattle.buffers.specs.Bytes.{littleEndian, num, numAt}
+use Rattle.buffers.specs.Bytes.{lowBytes, num, numAt}
 use Rattle.buffers.specs.Private.Numbers.{room, Stands}
 
 -- ── a number's own bytes ──
 
-pub num-le : (k n : ℕ) → n < room k → num (littleEndian k n) ≡ n
+pub num-le : (k n : ℕ) → n < room k → num (lowBytes k n) ≡ n
 num-le zero n h = omega arith
 num-le (suc k) n h =
-    let e : num (littleEndian k (n / 256)) ≡ n / 256 = num-le k (n / 256) (omega arith) in
+    let e : num (lowBytes k (n / 256)) ≡ n / 256 = num-le k (n / 256) (omega arith) in
     rw e (omega arith)
 
 -- the low k bytes of a number are those of what is left of it modulo 256 ^ k
-pub le-low : (k n m : ℕ) → littleEndian k (n + room k * m) ≡ littleEndian k n
+pub le-low : (k n m : ℕ) → lowBytes k (n + room k * m) ≡ lowBytes k n
 le-low zero n m = refl
 le-low (suc k) n m = rw (mul-assoc 256 (room k) m) (go (room k * m) (le-low k (n / 256) m))
   where
-    go : (q : ℕ) → littleEndian k (n / 256 + q) ≡ littleEndian k (n / 256) → littleEndian (suc k) (n + 256 * q) ≡ littleEndian (suc k) n
+    go : (q : ℕ) → lowBytes k (n / 256 + q) ≡ lowBytes k (n / 256) → lowBytes (suc k) (n + 256 * q) ≡ lowBytes (suc k) n
     go q h =
         let e : (n + 256 * q) % 256 ≡ n % 256 = omega arith in
         let f : (n + 256 * q) / 256 ≡ n / 256 + q = omega arith in
         rw (e, f) (ap (λ (l : List ℕ). n % 256 ∷ l) h)
 
 -- eight bytes of a number modulo 2^64
-pub low8 : (r v : ℕ) → r ≡ v % 2 ^ 64 → littleEndian 8 r ≡ littleEndian 8 v
+pub low8 : (r v : ℕ) → r ≡ v % 2 ^ 64 → lowBytes 8 r ≡ lowBytes 8 v
 low8 r v e =
     let f : v ≡ r + room 8 * (v / 2 ^ 64) = omega (arith, e) in
-    sym (le-low 8 r (v / 2 ^ 64)) ∙ ap (littleEndian 8) (sym f)
+    sym (le-low 8 r (v / 2 ^ 64)) ∙ ap (lowBytes 8) (sym f)
 
 -- ── a number that is made of two ──
 
@@ -42,11 +42,11 @@ num-join : (a b : List ℕ) → num (a ++ b) ≡ num a + room (length a) * num b
 num-join [] b = omega arith
 num-join (x ∷ a) b = rw (num-join a b, mul-assoc 256 (room (length a)) (num b)) (omega arith)
 
-le-join : (j k x y : ℕ) → x < room j → littleEndian (j + k) (x + room j * y) ≡ littleEndian j x ++ littleEndian k y
-le-join zero k x y h = rw (zero-add k) (ap (littleEndian k) (omega arith))
+le-join : (j k x y : ℕ) → x < room j → lowBytes (j + k) (x + room j * y) ≡ lowBytes j x ++ lowBytes k y
+le-join zero k x y h = rw (zero-add k) (ap (lowBytes k) (omega arith))
 le-join (suc j) k x y h = rw (suc-add j k, mul-assoc 256 (room j) y) (go (room j * y) (le-join j k (x / 256) y (omega arith)))
   where
-    go : (q : ℕ) → littleEndian (j + k) (x / 256 + q) ≡ littleEndian j (x / 256) ++ littleEndian k y → littleEndian (suc (j + k)) (x + 256 * q) ≡ littleEndian (suc j) x ++ littleEndian k y
+    go : (q : ℕ) → lowBytes (j + k) (x / 256 + q) ≡ lowBytes j (x / 256) ++ lowBytes k y → lowBytes (suc (j + k)) (x + 256 * q) ≡ lowBytes (suc j) x ++ lowBytes k y
     go q e =
         let f : (x + 256 * q) % 256 ≡ x % 256 = omega arith in
         let g : (x + 256 * q) / 256 ≡ x / 256 + q = omega arith in

@@ -19,9 +19,9 @@ abbrev pub placed : ℕ → List ℕ → List ℕ → List ℕ
 placed at l d = cond (leb (at + length l) (length d)) (overAt at l d) d
 
 -- the low k bytes of n, the lowest first
-abbrev pub littleEndian : ℕ → ℕ → List ℕ
-littleEndian zero n = []
-littleEndian (suc k) n = n % 256 ∷ littleEndian k (n / 256)
+abbrev pub lowBytes : ℕ → ℕ → List ℕ
+lowBytes zero n = []
+lowBytes (suc k) n = n % 256 ∷ lowBytes k (n / 256)
 
 -- the number that bytes give, the lowest first
 abbrev pub num : List ℕ → ℕ

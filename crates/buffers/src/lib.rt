@@ -4,7 +4,7 @@ ghost use mathlib.Core.Path.{_≡_};
 ghost use Prim.Native.Nat.{_+_, _≤_, _<_};
 ghost use lib.ListN.{length, take, drop};
 ghost use mathlib.Core.List.{[], _∷_};
-ghost use Rattle.buffers.specs.Bytes.{over, placed, littleEndian, numAt};
+ghost use Rattle.buffers.specs.Bytes.{over, placed, lowBytes, numAt};
 ghost use Rattle.buffers.specs.Private.Numbers.{Stands};
 
 // Copies src to dst from place `at` on.
@@ -41,7 +41,7 @@ pub fn put1(x: u8, dst: &mut [u8], at: usize)
 
 // The eight bytes of x, the lowest first.
 fn bytes8(x: u64) -> [u8; 8]
-    ensures { λ r. ⌜ r ≡ littleEndian 8 x ⌝ }
+    ensures { λ r. ⌜ r ≡ lowBytes 8 x ⌝ }
 {
     [
         (x % 256) as u8,
@@ -57,7 +57,7 @@ fn bytes8(x: u64) -> [u8; 8]
 
 // The same, to dst from place `at` on.
 pub fn put8(x: u64, dst: &mut [u8], at: usize)
-    ensures { λ _. ⌜ now (dst .exit) ≡ placed at (littleEndian 8 x) (now (dst .entry)) ⌝ }
+    ensures { λ _. ⌜ now (dst .exit) ≡ placed at (lowBytes 8 x) (now (dst .entry)) ⌝ }
 {
     let b = bytes8(x);
     put(&b, dst, at);
@@ -92,7 +92,7 @@ pub fn get4(src: &[u8], at: usize) -> u32
 // Its own bytes are then those: a byte is below 256, which the list alone does not say.
 pub fn get8(src: &[u8], at: usize) -> u64
     ensures { λ r. ⌜ r ≡ numAt 8 at (now (src .entry)) ⌝ }
-    ensures { λ r. ⌜ (at + 8 ≤ length (now (src .entry)) → littleEndian 8 r ≡ take 8 (drop at (now (src .entry)))) ⌝ }
+    ensures { λ r. ⌜ (at + 8 ≤ length (now (src .entry)) → lowBytes 8 r ≡ take 8 (drop at (now (src .entry)))) ⌝ }
 {
     if at <= src.len() {
         if 8 <= src.len() - at {

@@ -28,7 +28,7 @@ use Rattle.reading.specs.declared.Parts.{Parts}
 use Rattle.reading.specs.Reading.{operand, unused}
 use Rattle.reading.specs.Numbers.{opParts, effectParts, targetParts, valueOf, flowNumber}
 use Rattle.reading.proofs.Same.{four-slots}
-use Rattle.buffers.specs.Bytes.{littleEndian, num}
+use Rattle.buffers.specs.Bytes.{lowBytes, num}
 use Rattle.buffers.proofs.Numbers.{num-le}
 use Rattle.names.specs.Names.{letters, padded, nameBytes, kindOf}
 use Rattle.names.proofs.Proved.{theorems}
@@ -39,7 +39,7 @@ use Rattle.record.specs.Theorems.{I64, Fits, Proper}
 -- ── values ──
 
 -- a signed value, beside an address that is 0
-pub value-back : (z : ℤ) → I64 z → signed 64 (num (littleEndian 8 (modulo64 z + 0))) ≡ z
+pub value-back : (z : ℤ) → I64 z → signed 64 (num (lowBytes 8 (modulo64 z + 0))) ≡ z
 value-back z h = rw (add-zero (modulo64 z), num-le 8 (modulo64 z) (modulo-small z)) (modulo-back z (held z h))
   where
     held : (y : ℤ) → I64 y → SFits w64 y
@@ -47,15 +47,15 @@ value-back z h = rw (add-zero (modulo64 z), num-le 8 (modulo64 z) (modulo-small 
     held (negsuc n) k = record { sfits = k }
 
 -- an address, beside a value that is 0
-pub address-back : (a : ℕ) → a < 2 ^ 64 → num (littleEndian 8 (modulo64 (pos 0) + a)) ≡ a
+pub address-back : (a : ℕ) → a < 2 ^ 64 → num (lowBytes 8 (modulo64 (pos 0) + a)) ≡ a
 address-back a h =
     let e : 0 % 2 ^ 64 + a ≡ a = omega arith in
-    ap (λ (v : ℕ). num (littleEndian 8 v)) e ∙ num-le 8 a h
+    ap (λ (v : ℕ). num (lowBytes 8 v)) e ∙ num-le 8 a h
 
 -- ── cases by their numbers ──
 
 abbrev valueIn : Parts → ℕ
-valueIn p = num (littleEndian 8 (valueOf p))
+valueIn p = num (lowBytes 8 (valueOf p))
 
 op-back : (o : Op) → Fits (opParts o) → opIn (opParts o .number) (opParts o .first) (valueIn (opParts o)) ≡ o
 op-back (Reg n) f = refl

@@ -10,7 +10,7 @@ use lib.Seq.{take-at, drop-at, take-take, take-add, drop-drop, length-take-le, g
 use lib.Dec.{eqb}
 use borrow.Author.Tests.{eqb-true, eq-eqb}
 use native.Mathlib.Nat.{add-zero}
-use Rattle.buffers.specs.Bytes.{littleEndian, num}
+use Rattle.buffers.specs.Bytes.{lowBytes, num}
 use Rattle.buffers.proofs.Laws.{bytes-at}
 use Rattle.buffers.proofs.Numbers.{num-le}
 use Rattle.reading.proofs.Same.{Says}
@@ -30,7 +30,7 @@ module _ (at n m : ℕ) (p q l : List ℕ) (long : length p ≡ n) where
 
 -- ── eight bytes as a number ──
 
-pub one-number : (v n : ℕ) → v < 2 ^ 64 → n < 2 ^ 64 → littleEndian 8 v ≡ littleEndian 8 n → v ≡ n
+pub one-number : (v n : ℕ) → v < 2 ^ 64 → n < 2 ^ 64 → lowBytes 8 v ≡ lowBytes 8 n → v ≡ n
 one-number v n h k e = sym (num-le 8 v h) ∙ ap num e ∙ num-le 8 n k
 
 -- ── a piece byte by byte ──
@@ -52,10 +52,10 @@ four-bytes at w x y z l h p q r s = (λ i. sym p i ∷ sym q i ∷ sym r i ∷ s
 
 -- some bytes that stand there, and a number n in the eight bytes after them: is it v?
 pub then-number : (at k : ℕ) (bs l : List ℕ) (v n : ℕ) → length bs ≡ k → at + k + 8 ≤ length l → v < 2 ^ 64 → n < 2 ^ 64 →
-    bs ≡ part at k l → littleEndian 8 n ≡ part (at + k) 8 l → Says (eqb n v) (bs ++ littleEndian 8 v ≡ part at (k + 8) l)
+    bs ≡ part at k l → lowBytes 8 n ≡ part (at + k) 8 l → Says (eqb n v) (bs ++ lowBytes 8 v ≡ part at (k + 8) l)
 then-number at k bs l v n long h p q b e = (
-  λ t. both-parts at k 8 bs (littleEndian 8 v) l long b (ap (littleEndian 8) (sym (eqb-true n v t)) ∙ e),
-  λ f. eq-eqb n v (sym (one-number v n p q (right-part at k 8 bs (littleEndian 8 v) l long (omega arith) f ∙ sym e))),
+  λ t. both-parts at k 8 bs (lowBytes 8 v) l long b (ap (lowBytes 8) (sym (eqb-true n v t)) ∙ e),
+  λ f. eq-eqb n v (sym (one-number v n p q (right-part at k 8 bs (lowBytes 8 v) l long (omega arith) f ∙ sym e))),
 )
 
 -- the same bytes in other words

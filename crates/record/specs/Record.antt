@@ -13,7 +13,7 @@ use Rattle.reading.specs.declared.Decoded.{Decoded}
 use Rattle.reading.specs.declared.Parts.{Parts}
 use Rattle.reading.specs.Reading.{unused}
 use Rattle.reading.specs.Numbers.{parts, opParts, effectParts, targetParts, valueOf, flowNumber}
-use Rattle.buffers.specs.Bytes.{over, littleEndian}
+use Rattle.buffers.specs.Bytes.{over, lowBytes}
 use Rattle.names.specs.Names.{nameBytes}
 
 abbrev pub size : ℕ
@@ -26,13 +26,14 @@ bit false = 0
 -- 0 to 11: the number 0, flow, mark in bit 0 and target present in bit 1, operand count, target
 abbrev pub headBytes : Insn → List ℕ
 headBytes i =
-    0 ∷ flowNumber (i .flow) ∷ (bit (i .«delay_slot») + 2 * targetParts (i .target) .number) ∷ i .count ∷ littleEndian 8 (valueOf (targetParts (i .target)))
+    0 ∷ flowNumber (i .flow) ∷ (bit (i .«delay_slot») + 2 * targetParts (i .target) .number) ∷ i .count ∷
+    lowBytes 8 (valueOf (targetParts (i .target)))
 
 -- 12 to 23: the effect, its first register, its second, its size, its value
 abbrev pub effectBytes : Effect → List ℕ
 effectBytes e =
     let p : Parts = effectParts e in
-    p .number ∷ p .first ∷ p .second ∷ p .size ∷ littleEndian 8 (valueOf p)
+    p .number ∷ p .first ∷ p .second ∷ p .size ∷ lowBytes 8 (valueOf p)
 
 -- the operand in a slot, in numbers; zeros if the slot is not used
 abbrev pub slotParts : Bool → Op → Parts
@@ -44,7 +45,7 @@ slotOf i k = slotParts (ltb k (i .count)) (getD (i .ops) k unused .op)
 
 -- ten bytes: its kind, register and value
 abbrev pub slotBytes : Parts → List ℕ
-slotBytes p = p .number ∷ p .first ∷ littleEndian 8 (valueOf p)
+slotBytes p = p .number ∷ p .first ∷ lowBytes 8 (valueOf p)
 
 -- 24 to 63: the four operands
 abbrev pub operandBytes : Insn → List ℕ

@@ -8,7 +8,7 @@ ghost use Prim.Native.Nat.{_+_, _*_, _%_, _^_, _≤_, _<_};
 ghost use lib.ListN.{length, take, drop};
 ghost use Rattle.word.specs.Numbers.{signed};
 ghost use Rattle.reading.specs.Numbers.{targetParts, effectParts, valueOf};
-ghost use Rattle.buffers.specs.Bytes.{over, overAt, littleEndian};
+ghost use Rattle.buffers.specs.Bytes.{over, overAt, lowBytes};
 ghost use Rattle.names.specs.Names.{nameBytes};
 ghost use Rattle.record.specs.Record.{size, bit, headBytes, effectBytes, slotOf, slotBytes, operandBytes, numberBytes, packNumber, packed};
 ghost use Rattle.record.specs.Unpacked.{byteAt, numberAt, opIn, effectIn, flowIn, targetIn, slotIn, slotsIn, insnIn, unpacked};
@@ -423,7 +423,7 @@ fn is_operand(d: Decoded, k: usize, b: &[u8]) -> bool
 // Do these four bytes and this number stand at place `at`?
 fn has_four(b: &[u8], at: usize, w: u8, x: u8, y: u8, z: u8, v: u64) -> bool
     requires { ⌜ at + 12 ≤ length (now b) ⌝ }
-    ensures { λ r. ⌜ (r ≡ true) ↔ (w ∷ x ∷ y ∷ z ∷ littleEndian 8 v ≡ part at 12 (now (b .entry))) ⌝ }
+    ensures { λ r. ⌜ (r ≡ true) ↔ (w ∷ x ∷ y ∷ z ∷ lowBytes 8 v ≡ part at 12 (now (b .entry))) ⌝ }
 {
     if b[at] != w {
         return false;
@@ -442,7 +442,7 @@ fn has_four(b: &[u8], at: usize, w: u8, x: u8, y: u8, z: u8, v: u64) -> bool
 
 fn has_two(b: &[u8], at: usize, x: u8, y: u8, v: u64) -> bool
     requires { ⌜ at + 10 ≤ length (now b) ⌝ }
-    ensures { λ r. ⌜ (r ≡ true) ↔ (x ∷ y ∷ littleEndian 8 v ≡ part at 10 (now (b .entry))) ⌝ }
+    ensures { λ r. ⌜ (r ≡ true) ↔ (x ∷ y ∷ lowBytes 8 v ≡ part at 10 (now (b .entry))) ⌝ }
 {
     if b[at] != x {
         return false;

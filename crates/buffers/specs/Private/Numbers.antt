@@ -4,7 +4,7 @@ use Prim.Native.Nat.{ℕ, zero, suc, _*_, _<_}
 use mathlib.Core.Path.{_≡_}
 use mathlib.Core.List.{List}
 use lib.ListN.{take, drop}
-use Rattle.buffers.specs.Bytes.{littleEndian, num}
+use Rattle.buffers.specs.Bytes.{lowBytes, num}
 
 -- k bytes hold a number below 256 ^ k
 abbrev pub room : ℕ → ℕ
@@ -15,4 +15,4 @@ room (suc k) = 256 * room k
 pub record Stands (k at : ℕ) (l : List ℕ) (n : ℕ) : Type 0 where
   pub value : n ≡ num (take k (drop at l))
   pub small : n < room k
-  pub bytes : littleEndian k n ≡ take k (drop at l)
+  pub bytes : lowBytes k n ≡ take k (drop at l)

@@ -5,7 +5,7 @@ use mathlib.Core.Path.{_≡_, sym, _∙_, ap}
 use native.Mathlib.Omega.{arith}
 use lib.ListN.{length, take, drop}
 use borrow.Author.Tests.{eqb-true, eq-eqb}
-use Rattle.buffers.specs.Bytes.{littleEndian, numAt}
+use Rattle.buffers.specs.Bytes.{lowBytes, numAt}
 use Rattle.names.proofs.Same.{halves-same}
 use Rattle.names.proofs.same_name.Statement.{statement}
 use Rattle.names.proofs.same_name.Tie as tie
@@ -19,9 +19,9 @@ returns c =
     let b = low .before .before .args .t2 in
     let p : length a ≡ 16 = search needs in
     let q : length b ≡ 16 = search needs in
-    let first : take 8 (drop 0 a) ≡ take 8 (drop 0 b) = sym (low .get8 .ensures .1 (omega arith)) ∙ ap (littleEndian 8) (branch .if1 .taken) ∙ branch .before .get82 .ensures .1 (omega arith) in
+    let first : take 8 (drop 0 a) ≡ take 8 (drop 0 b) = sym (low .get8 .ensures .1 (omega arith)) ∙ ap (lowBytes 8) (branch .if1 .taken) ∙ branch .before .get82 .ensures .1 (omega arith) in
     let tested = eqb-true (high .get83 .result) (c .get84 .result) in (
-      λ e. halves-same a b p q first (sym (high .get83 .ensures .1 (omega arith)) ∙ ap (littleEndian 8) (tested e) ∙ c .get84 .ensures .1 (omega arith)),
+      λ e. halves-same a b p q first (sym (high .get83 .ensures .1 (omega arith)) ∙ ap (lowBytes 8) (tested e) ∙ c .get84 .ensures .1 (omega arith)),
       λ e. eq-eqb (high .get83 .result) (c .get84 .result) (high .get83 .ensures .0 ∙ ap (numAt 8 8) e ∙ sym (c .get84 .ensures .0)),
     )
 

@@ -7,7 +7,7 @@ use Prim.Native.Nat.{_%_, _^_}
 use native.Mathlib.Omega.{arith}
 use Rattle.reading.specs.declared.Parts.{Parts}
 use Rattle.reading.specs.Numbers.{effectParts, valueOf}
-use Rattle.buffers.specs.Bytes.{littleEndian}
+use Rattle.buffers.specs.Bytes.{lowBytes}
 use Rattle.buffers.proofs.Laws.{first-at, next-at, byte}
 use Rattle.buffers.proofs.Numbers.{low8}
 use Rattle.record.proofs.effect.Statement.{statement}
@@ -20,7 +20,7 @@ returns c =
     let p : Parts = effectParts (s .args .d .insn .effect) in
     let e = c .before .before .before .before .before .before .before .before .before .before .before .before .before .before .before .before .before .before .before .before .before .effect-parts .ensures in
     let low = c .before .before .before .before .value-of .ensures ∙ ap (λ (q : Parts). valueOf q % 2 ^ 64) e in
-    next-at 12 16 (p .number ∷ p .first ∷ p .second ∷ p .size ∷ []) (littleEndian 8 (valueOf p)) d refl (omega arith)
+    next-at 12 16 (p .number ∷ p .first ∷ p .second ∷ p .size ∷ []) (lowBytes 8 (valueOf p)) d refl (omega arith)
     (next-at 12 15 (p .number ∷ p .first ∷ p .second ∷ []) (p .size ∷ []) d refl (omega arith)
     (next-at 12 14 (p .number ∷ p .first ∷ []) (p .second ∷ []) d refl (omega arith)
     (next-at 12 13 (p .number ∷ []) (p .first ∷ []) d refl (omega arith)

@@ -5,7 +5,7 @@ use mathlib.Core.Path.{refl}
 use mathlib.Core.List.{[], _∷_}
 use native.Mathlib.Omega.{arith}
 use Rattle.reading.proofs.Same.{differs}
-use Rattle.buffers.specs.Bytes.{littleEndian}
+use Rattle.buffers.specs.Bytes.{lowBytes}
 use Rattle.record.proofs.Pieces.{byte-of, first-byte, two-bytes, then-number}
 use Rattle.record.proofs.has_two.Statement.{statement}
 use Rattle.record.proofs.has_two.Tie as tie
@@ -13,12 +13,12 @@ use Rattle.record.proofs.has_two.Tie as tie
 returns : tie.Need-returns
 returns c =
     let a = c .before .before .before .args in
-    differs (λ e. c .if1 .taken (first-byte (a .at) 10 (a .b .now) (a .x ∷ a .y ∷ littleEndian 8 (a .v)) (omega arith) e))
+    differs (λ e. c .if1 .taken (first-byte (a .at) 10 (a .b .now) (a .x ∷ a .y ∷ lowBytes 8 (a .v)) (omega arith) e))
 
 returns-2 : tie.Need-returns-2
 returns-2 c =
     let a = c .before .before .before .before .before .args in
-    differs (λ e. c .if2 .taken (byte-of (a .at) 10 (a .b .now) (a .x ∷ a .y ∷ littleEndian 8 (a .v)) 1 (omega arith) e))
+    differs (λ e. c .if2 .taken (byte-of (a .at) 10 (a .b .now) (a .x ∷ a .y ∷ lowBytes 8 (a .v)) 1 (omega arith) e))
 
 returns-3 : tie.Need-returns-3
 returns-3 c =

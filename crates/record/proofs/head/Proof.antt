@@ -7,7 +7,7 @@ use Prim.Native.Nat.{ℕ, _+_, _*_, _%_, _^_}
 use native.Mathlib.Omega.{arith}
 use Rattle.reading.specs.declared.Parts.{Parts}
 use Rattle.reading.specs.Numbers.{targetParts, valueOf, flowNumber}
-use Rattle.buffers.specs.Bytes.{littleEndian}
+use Rattle.buffers.specs.Bytes.{lowBytes}
 use Rattle.buffers.proofs.Laws.{first-at, next-at, byte}
 use Rattle.buffers.proofs.Numbers.{low8}
 use Rattle.record.specs.Record.{bit}
@@ -23,7 +23,7 @@ returns c =
     let m : ℕ = bit (i .«delay_slot») + 2 * targetParts (i .target) .number in
     let v : ℕ = valueOf (targetParts (i .target)) in
     let low = c .before .before .before .before .value-of .ensures ∙ ap (λ (p : Parts). valueOf p % 2 ^ 64) (c .before .before .before .before .before .before .before .before .before .before .before .before .before .before .before .before .before .before .before .before .before .before .before .target-parts .ensures) in
-    next-at 0 4 (0 ∷ f ∷ m ∷ i .count ∷ []) (littleEndian 8 v) d refl (omega arith)
+    next-at 0 4 (0 ∷ f ∷ m ∷ i .count ∷ []) (lowBytes 8 v) d refl (omega arith)
     (next-at 0 3 (0 ∷ f ∷ m ∷ []) (i .count ∷ []) d refl (omega arith)
     (next-at 0 2 (0 ∷ f ∷ []) (m ∷ []) d refl (omega arith)
     (next-at 0 1 (0 ∷ []) (f ∷ []) d refl (omega arith)

@@ -6,7 +6,7 @@ use mathlib.Core.List.{List, _∷_}
 use Prim.Native.Nat.{ℕ, _%_, _^_}
 use Rattle.reading.specs.declared.Parts.{Parts}
 use Rattle.reading.specs.Numbers.{valueOf}
-use Rattle.buffers.specs.Bytes.{littleEndian}
+use Rattle.buffers.specs.Bytes.{lowBytes}
 use Rattle.buffers.proofs.Numbers.{low8}
 use Rattle.record.specs.Record.{slotOf}
 use Rattle.record.proofs.Pieces.{in-other-words}
@@ -21,7 +21,7 @@ returns c =
     let r = c .before .value-of .result in
     let low = c .before .value-of .ensures ∙ ap (λ (q : Parts). valueOf q % 2 ^ 64) e in
     in-other-words
-    (ap (λ (q : Parts). q .number ∷ q .first ∷ littleEndian 8 r) e ∙ ap (λ (m : List ℕ). p .number ∷ p .first ∷ m) (low8 r (valueOf p) low))
+    (ap (λ (q : Parts). q .number ∷ q .first ∷ lowBytes 8 r) e ∙ ap (λ (m : List ℕ). p .number ∷ p .first ∷ m) (low8 r (valueOf p) low))
     (c .has-two .ensures)
 
 pub is-operand-spec : {M : Type 1} → statement M

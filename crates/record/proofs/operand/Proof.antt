@@ -7,7 +7,7 @@ use Prim.Native.Nat.{ℕ, _+_, _*_, _%_, _^_}
 use native.Mathlib.Omega.{arith}
 use Rattle.reading.specs.declared.Parts.{Parts}
 use Rattle.reading.specs.Numbers.{valueOf}
-use Rattle.buffers.specs.Bytes.{littleEndian}
+use Rattle.buffers.specs.Bytes.{lowBytes}
 use Rattle.buffers.proofs.Laws.{first-at, next-at, byte}
 use Rattle.buffers.proofs.Numbers.{low8}
 use Rattle.record.specs.Record.{slotOf, slotBytes}
@@ -28,7 +28,7 @@ returns c =
     let p : Parts = slotOf (s .args .d .insn) (s .args .k) in
     let e = c .before .before .before .before .before .before .before .before .before .before .before .before .before .slot .ensures in
     let low = c .before .before .before .before .value-of .ensures ∙ ap (λ (q : Parts). valueOf q % 2 ^ 64) e in
-    next-at at (at + 2) (p .number ∷ p .first ∷ []) (littleEndian 8 (valueOf p)) d refl (omega arith)
+    next-at at (at + 2) (p .number ∷ p .first ∷ []) (lowBytes 8 (valueOf p)) d refl (omega arith)
     (next-at at (at + 1) (p .number ∷ []) (p .first ∷ []) d refl (omega arith)
     (first-at at (p .number ∷ []) d (omega arith) (byte (ap (λ (q : Parts). q .number) e)) (c .before .before .before .before .before .before .before .before .before .before .before .put1 .ensures))
     (byte (ap (λ (q : Parts). q .first) e)) (c .before .before .before .before .before .before .before .put12 .ensures))
