@@ -7,8 +7,8 @@
    to what a call reads.
 
    A slice is a pointer and a length in bytes. With length 0 the pointer may be null and is not followed. No pointer to bytes needs
-   any alignment. A pointer to one number (size_t *, uint8_t *kind) is not null, is aligned as that type is, and overlaps nothing else that is
-   lent; the number is written at every call, and what it was before is not looked at. A flag is a number: 0 is off, any other number is on. */
+   any alignment. A pointer to one number (size_t *, uint8_t *kind) is not null, is aligned as that type is, and must not
+   overlap any other argument; the number is written at every call, and what it was before is not looked at. A flag is a number: 0 is off, any other number is on. */
 #ifndef CALMUREDDA_H
 #define CALMUREDDA_H
 
@@ -30,7 +30,7 @@ enum {
     CALMUREDDA_COP1 = 6,
     CALMUREDDA_SPECIAL2 = 7,
     CALMUREDDA_SPECIAL3 = 8,
-    CALMUREDDA_NO_WORD = 9,       /* no word has the record at that address under that flag; or it is no reading's record */
+    CALMUREDDA_NO_WORD = 9,       /* no word has the record at that address under that flag; or these bytes are not the record of any reading */
     CALMUREDDA_NO_LINE = 10,      /* over 4 operands, or a register above 31 in one that is used */
     CALMUREDDA_NO_ROOM = 11,      /* the line, or the first line of a page, has no room */
     CALMUREDDA_BAD_HEADER = 12,   /* a file's length, count, flags or total, or its records are cut off */
@@ -156,7 +156,7 @@ uint8_t calmuredda_section_body(const uint8_t *file, size_t file_len, size_t n, 
 /* The block from word `index` on: the words up to the first one with a delay slot, and the word in that slot.
 
    Answers CALMUREDDA_ACCEPTED, sets *kind to how the block ends and *words to how many words it has. With an index that the body does not have
-   it answers CALMUREDDA_NO_INDEX, and both are 0. Who walks a body by blocks steps over the refused word after a block of
+   it answers CALMUREDDA_NO_INDEX, and both are 0. A caller that walks a body block by block must skip the refused word after a block of
    kind CALMUREDDA_END_REFUSED, and of CALMUREDDA_END_NO_SLOT where there is one. */
 uint8_t calmuredda_block(const uint8_t *body, size_t body_len, uint64_t va, uint8_t big, uint8_t wide, size_t index,
                          uint8_t *kind, size_t *words);

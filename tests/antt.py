@@ -39,6 +39,7 @@ INFIX = {
     "one-of": lambda field, values: ("one-of", field, values),
     "none-of": lambda field, values: ("none-of", field, values),
     "to": lambda first, last: list(range(first, last + 1)),
+    "gets": lambda field, value: (field, value),
     "+": operator.add,
 }
 END = ""

@@ -1,6 +1,6 @@
 #!/usr/bin/env python3
-"""Hold the named differences between the manuals and the Rust, as they stand in crates/manual/specs, against docs/DIFFERENCES.md
-and against the Rust: the example of each, and words drawn at random from those that it covers.
+"""Compare the named differences between the manuals and the Rust, as they stand in crates/manual/specs, with docs/DIFFERENCES.md,
+with docs/PATCHING.md and with the Rust: the example of each, and words drawn at random from those that it covers.
 
     check.py REPOSITORY ORACLE
 
@@ -33,6 +33,11 @@ ENTRIES = 75
 LISTS = ("refusedWords", "otherReadings", "reservedWords")
 # The entry whose mnemonics have neither a page nor an alias.
 WITHOUT_PAGE = "reserved-format"
+# The one that depends on the address, its number and the example that crates/manual/specs/Tight.antt has.
+PAST_PC = "target-past-pc"
+PAST_WORD, PAST_ADDRESS = 0x04000000, 0xFFFFFFFC
+# The entry of the last list whose words are other instructions of a manual.
+WITHOUT_FLAG = "mips64-without-flag"
 
 # For each entry and flag, so many words, if as many come up in so many draws: a small entry is drawn to its last word.
 WORDS_EACH = 400
@@ -140,7 +145,9 @@ class Entry:
         self.demand(not any(words.empty for words in self.sets), "one of its sets has no words")
         answer, content = difference["answer"]
         self.refusal = f"refused {content}" if answer == "refused" else None
-        self.mnemonics = set() if self.refusal else {mnemonic(kind) for sort in content for kind in sort["kinds"]}
+        # The field that is left out of what the page has, if that is all.
+        self.dropped = content if answer == "drops" else None
+        self.mnemonics = {mnemonic(kind) for sort in content for kind in sort["kinds"]} if answer == "reads" else set()
 
     def demand(self, holds, message):
         demand(holds, self.name, message)
@@ -148,11 +155,14 @@ class Entry:
     def under(self, wide):
         return [words for words in self.sets if wide in words.flags]
 
-    def fits(self, answer):
-        return answer == self.refusal if self.refusal else answer.split(" ")[0] in self.mnemonics
+    def fits(self, answer, page):
+        """Whether the answer is what the entry says of a word, which is on that page or on none."""
+        allowed = {page} if self.dropped else self.mnemonics
+        return answer == self.refusal if self.refusal else answer.split(" ")[0] in allowed
 
     def said(self):
-        return self.refusal or "one of " + ", ".join(sorted(self.mnemonics))
+        dropped = f"the page's name, without {self.dropped}" if self.dropped else None
+        return self.refusal or dropped or "one of " + ", ".join(sorted(self.mnemonics))
 
 
 def entries_of(repository):
@@ -184,6 +194,13 @@ def check_smallest(entry):
 
 Row = collections.namedtuple("Row", "number name word flag manual rust we words")
 ROW = re.compile(r"\| D(\d+) \| `([\w-]+)` \| `0x([0-9a-f]{8})`(?:, flag (on|off))?" + r" \| ([^|]*)" * 4 + r" \|")
+# The row of the difference that depends on the address.
+PAST_ROW = re.compile(r"\| D(\d+) \| `([\w-]+)` \| `0x([0-9a-f]{8})` at `0x([0-9a-f]+)`, flag off" + r" \| ([^|]*)" * 4 + r" \|")
+# A row of the two tables of what comes back, in docs/PATCHING.md: of differences, and of words on which the manual agrees.
+BACK_ROW = re.compile(r"\| D(\d+) \| ([^|]*) \| ([^|]*) \| [^|]* \|")
+SWAP_ROW = re.compile(
+    r"\| `([\w-]+)` \| `([\w.]+)` \| `([\w.]+)` \| (all|below 0x8000) \| `0x([0-9a-f]{8})`(?:, flag (on))? \| `0x([0-9a-f]{8})` \| [^|]* \|"
+)
 
 
 def tables_of(repository):
@@ -192,7 +209,7 @@ def tables_of(repository):
     for line in text_of(repository, "docs/DIFFERENCES.md").splitlines():
         if line.startswith("#"):
             tables.append([])
-        if line.startswith("| D"):
+        if line.startswith("| D") and not PAST_ROW.fullmatch(line):
             found = ROW.fullmatch(line)
             demand(found, "docs/DIFFERENCES.md", f"a row that cannot be read: {line}")
             tables[-1].append(Row(*found.groups()))
@@ -219,6 +236,19 @@ def check_row(number, entry, row, pages):
         entry.demand(pages.names(entry.word, entry.wide)[:1] == [page], f"{example} is not on the page {page}")
 
 
+def check_past(repository, oracle):
+    """The row of the difference that depends on the address: it has its number, its example and the Rust's answer."""
+    rows = [found.groups() for found in map(PAST_ROW.fullmatch, text_of(repository, "docs/DIFFERENCES.md").splitlines()) if found]
+    demand(len(rows) == 1, PAST_PC, f"{len(rows)} rows in docs/DIFFERENCES.md")
+    number, name, word, address, _, rust, _, _ = rows[0]
+    demand((int(number), name) == (ENTRIES + 1, PAST_PC), PAST_PC, f"D{number} `{name}` in docs/DIFFERENCES.md")
+    demand((int(word, 16), int(address, 16)) == (PAST_WORD, PAST_ADDRESS), PAST_PC, f"0x{word} at 0x{address} in docs/DIFFERENCES.md")
+    example = f"{PAST_PC} 0x{PAST_WORD:08x} 0x{PAST_ADDRESS:08x} false"
+    demand(example in text_of(repository, "crates/manual/specs/Tight.antt"), PAST_PC, f"`{example}` is not in specs/Tight.antt")
+    (answer,) = answers_of(oracle, [(PAST_WORD, False)], PAST_ADDRESS)
+    demand(rust == f"`{answer}`", PAST_PC, f"the Rust answers {answer}, docs/DIFFERENCES.md has {rust}")
+
+
 # ── the Rust ──
 
 
@@ -233,11 +263,16 @@ def words_of(entry, wide, source):
     return list(dict.fromkeys([*found, *itertools.chain(*(words.corners() for words in sets))]))
 
 
-def answers_of(oracle, questions):
-    """The listing line, or `refused` with its number, for each word with its flag, at address 0."""
-    lines = "".join(f"{wide:d} 0 {word:08x}\n" for word, wide in questions)
-    run = subprocess.run([oracle, "text"], input=lines, stdout=subprocess.PIPE, text=True, check=True)
-    answers = [line.split(" ", 2) for line in run.stdout.splitlines()]
+def asked_of(oracle, mode, questions, address=0):
+    """The driver's lines for each word with its flag."""
+    lines = "".join(f"{wide:d} {address:x} {word:08x}\n" for word, wide in questions)
+    run = subprocess.run([oracle, mode], input=lines, stdout=subprocess.PIPE, text=True, check=True)
+    return run.stdout.splitlines()
+
+
+def answers_of(oracle, questions, address=0):
+    """The listing line, or `refused` with its number, for each word with its flag."""
+    answers = [line.split(" ", 2) for line in asked_of(oracle, "text", questions, address)]
     demand([int(word, 16) for _, word, _ in answers] == [word for word, _ in questions], "oracle", "answers other words")
     return [answer for _, _, answer in answers]
 
@@ -251,7 +286,7 @@ def objection(entry, word, wide, answer, covering, pages):
     on = pages.names(word, wide or entry.list == LISTS[1])
     if bool(on) != (entry.list != LISTS[-1]):
         return f"on {'the page ' + on[0] if on else 'no page'}, but in {entry.list}"
-    return None if entry.fits(answer) else f"the Rust answers {answer}, the entry says {entry.said()}"
+    return None if entry.fits(answer, on[0] if on else None) else f"the Rust answers {answer}, the entry says {entry.said()}"
 
 
 def check_answers(oracle, entries, rows, covering, pages):
@@ -270,6 +305,61 @@ def check_answers(oracle, entries, rows, covering, pages):
         if found:
             sys.exit(f"{entry.name}: {shown(word, wide)}: {found}")
     return len(asked) - len(entries)
+
+
+# ── what comes back ──
+
+
+def backs_of(oracle, questions):
+    """The smallest word that the Rust reads alike, for each accepted word with its flag."""
+    lines = [line.split(" ") for line in asked_of(oracle, "back", questions)]
+    demand([int(word, 16) for _, _, word, _ in lines] == [word for word, _ in questions], "oracle", "words come back for others")
+    return [int(back, 16) for _, _, _, back in lines]
+
+
+def moved_pages(oracle, entry, pages, source):
+    """The pages of the entry's words that do not come back as themselves, and the pages of what comes back. For an entry whose
+    words no page of the flag's manual defines, MIPS64's pages count."""
+    asked = [(word, wide) for wide in (False, True) for word in words_of(entry, wide, source)]
+    before, after = set(), set()
+    for (word, _), back in zip(asked, backs_of(oracle, asked)):
+        if back != word:
+            before.update(pages.names(word, True)[:1])
+            after.update(pages.names(back, True)[:1])
+    return before, after
+
+
+def check_backs(repository, oracle, entries, pages):
+    """docs/PATCHING.md lists the differences whose words come back as other instructions of a manual or without a field."""
+    text = text_of(repository, "docs/PATCHING.md")
+    listed = {int(found[1]): found.groups()[1:] for found in map(BACK_ROW.fullmatch, text.splitlines()) if found}
+    source = random.Random(SEED)
+    for number, entry in enumerate(entries, 1):
+        if entry.list != LISTS[1] and entry.name != WITHOUT_FLAG:
+            entry.demand(number not in listed, "docs/PATCHING.md has a row for it")
+            continue
+        moved = moved_pages(oracle, entry, pages, source)
+        ours = [", ".join(f"`{name}`" for name in sorted(names)) for names in moved]
+        theirs = list(listed.get(number, ("", "")))
+        entry.demand(ours == theirs, f"{ours[0] or 'no page'} comes back as {ours[1] or 'no other'}, docs/PATCHING.md has {theirs}")
+    return len(listed)
+
+
+def check_swaps(repository, oracle, pages):
+    """docs/PATCHING.md lists the swaps of the specs: words on which the manual agrees, and that come back as others."""
+    text = text_of(repository, "docs/PATCHING.md")
+    listed = [found.groups() for found in map(SWAP_ROW.fullmatch, text.splitlines()) if found]
+    swaps = value_of(repository, "manual/specs/Patching.antt", "swaps")
+    for swap, row in itertools.zip_longest(swaps, listed):
+        demand(swap and row, "swaps", f"{len(swaps)} in the specs, {len(listed)} in docs/PATCHING.md")
+        word, wide = swap["example"]["word"], swap["example"]["wide"] == "true"
+        back = word_of({**fields_of(word), **dict(swap["back"])})
+        names = (swap["swapped"], swap["page"], swap["read-as"], swap["range"].replace("-", " ", 1))
+        ours = (*names, f"{word:08x}", "on" if wide else None, f"{back:08x}")
+        demand(ours == row, swap["swapped"], f"{row} in docs/PATCHING.md, {ours} in the specs")
+        demand(pages.names(word, wide)[:1] == [swap["page"]], swap["swapped"], f"0x{word:08x} is not on its page")
+        demand(backs_of(oracle, [(word, wide)]) == [back], swap["swapped"], f"0x{word:08x} does not come back as 0x{back:08x}")
+    return len(swaps)
 
 
 # ── pages, rows and names ──
@@ -357,8 +447,15 @@ def main():
     check_pages(pages, rows, {row.name: row for row in itertools.chain(*tables[:-1])}, covering)
     check_rows(repository, pages, rows, entries)
     names = check_names(repository, entries)
+    check_past(repository, oracle)
+    backs = check_backs(repository, oracle, entries, drawings)
+    swaps = check_swaps(repository, oracle, drawings)
     words = check_answers(oracle, entries, documented, covering, drawings)
-    print(f"{len(entries)} entries with their smallest words, {words} more words, {len(pages)} pages, {names} mnemonics")
+    print(
+        f"{len(entries)} entries with their smallest words and one at its address, {words} more words, {len(pages)} pages, "
+        f"{names} mnemonics; {backs} entries and {swaps} pages whose words come back otherwise"
+    )
 
 
-main()
+if __name__ == "__main__":
+    main()

@@ -1,5 +1,5 @@
 #!/usr/bin/env python3
-"""Hold the manual's pages against two disassemblers, word by word.
+"""Compare the manual's pages with two disassemblers, word by word.
 
     compare.py REPOSITORY FOLDER
 
@@ -252,7 +252,8 @@ Ignored = collections.namedtuple("Ignored", "name runs words bits text")
 
 LLVM_HARDWARE_REGISTER = 29
 LINK_REGISTER = 31
-CONTROL_REGISTERS = (0, 25, 26, 28, 31)
+READABLE_CONTROL_REGISTERS = (0, 25, 26, 28, 31)
+WRITABLE_CONTROL_REGISTERS = (25, 26, 28, 31)
 RESERVED_HARDWARE_REGISTERS = range(4, 29)
 PAIRED_SINGLES = COMPARES_PS + named(
     "abs.ps mov.ps neg.ps movf.ps movt.ps movz.ps movn.ps alnv.ps madd.ps msub.ps nmadd.ps nmsub.ps"
@@ -308,8 +309,16 @@ FORBIDDEN = (
         "ins, dins, dinsu: the size is 0 or negative",
     ),
     Forbidden(
-        "no-control-register", BOTH, named("cfc1 ctc1"), fields_are("Fs", lambda fs: fs not in CONTROL_REGISTERS),
-        "cfc1, ctc1: a register that does not exist",
+        "no-readable-control", BOTH, ("cfc1",), fields_are("Fs", lambda fs: fs not in READABLE_CONTROL_REGISTERS),
+        "cfc1: a register that does not exist",
+    ),
+    Forbidden(
+        "no-writable-control", BOTH, ("ctc1",), fields_are("Fs", lambda fs: fs not in WRITABLE_CONTROL_REGISTERS),
+        "ctc1: a register that does not exist, or register 0, which cannot be written",
+    ),
+    Forbidden(
+        "odd-condition-code", BINUTILS, COMPARES_PS + named("movf.ps movt.ps"), fields_are("Cc", lambda cc: cc % 2 == 1),
+        "c.cond.ps, movf.ps, movt.ps: cc is odd",
     ),
     Forbidden(
         "no-hardware-register", BINUTILS, ("rdhwr",), fields_are("Rd", lambda rd: rd in RESERVED_HARDWARE_REGISTERS),

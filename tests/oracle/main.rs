@@ -3,8 +3,9 @@
 //! Without an argument it answers the questions on standard input in columns;
 //! `text` answers them in listing lines; `vectors` prints the kept list, and
 //! `many` as many answers as it is told to. `smallest-vectors` and `smallest` do
-//! the same with the smallest word of the same reading for an answer. `records` writes
-//! questions to the library for C in binary frames, with the answers to them.
+//! the same with the smallest word of the same reading for an answer, and `back` does it
+//! for the questions on standard input. `records` writes questions to the library for C
+//! in binary frames, with the answers to them.
 
 mod damage;
 mod find;
@@ -21,7 +22,7 @@ use std::process::exit;
 use shared::{answer, many, mips, model, record, smallest, vectors};
 
 const USAGE: &str =
-    "usage: oracle [text | vectors | smallest-vectors | (many | smallest | records) COUNT SEED]";
+    "usage: oracle [text | back | vectors | smallest-vectors | (many | smallest | records) COUNT SEED]";
 const STATUS_FAILED: i32 = 1;
 const STATUS_USAGE: i32 = 2;
 
@@ -32,6 +33,7 @@ const BUFFER_BYTES: usize = 1 << 16;
 enum Mode {
     Columns,
     Text,
+    Back,
     Vectors,
     Many { count: usize, seed: u64 },
     SmallestVectors,
@@ -54,6 +56,7 @@ fn mode_of(arguments: &[String]) -> Option<Mode> {
     match arguments {
         [] => Some(Mode::Columns),
         [one] if one == "text" => Some(Mode::Text),
+        [one] if one == "back" => Some(Mode::Back),
         [one] if one == "vectors" => Some(Mode::Vectors),
         [one] if one == "smallest-vectors" => Some(Mode::SmallestVectors),
         [name, count, seed] => counted_mode(name, count, seed),
@@ -66,6 +69,7 @@ fn run(mode: Mode, out: &mut impl Write) -> io::Result<()> {
     match mode {
         Mode::Columns => input::for_each_ask(input, |ask| answer::write_answer(out, ask)),
         Mode::Text => input::for_each_ask(input, |ask| text::write_text(out, ask)),
+        Mode::Back => input::for_each_ask(input, |ask| smallest::write_smallest(out, ask)),
         Mode::Vectors => vectors::list()
             .iter()
             .try_for_each(|ask| answer::write_answer(out, ask)),

@@ -121,8 +121,8 @@ common =
     row kind.sllv (is 0) read read read zeros (is 4) rd-rt-rs plain writes ∷
     row kind.srlv (is 0) read read read zeros (is 6) rd-rt-rs plain writes ∷
     row kind.srav (is 0) read read read zeros (is 7) rd-rt-rs plain writes ∷
-    row kind.jr (is 0) read zeros zeros zeros (is 8) one-rs byRegister nothing ∷
-    row kind.jalr (is 0) read zeros read zeros (is 9) link call nothing ∷
+    row kind.jr (is 0) read zeros zeros extra (is 8) one-rs byRegister nothing ∷
+    row kind.jalr (is 0) read zeros read extra (is 9) link call nothing ∷
     row kind.movz (is 0) read read read zeros (is 10) rd-rs-rt plain writes ∷
     row kind.movn (is 0) read read read zeros (is 11) rd-rs-rt plain writes ∷
     row kind.syscall (is 0) extra extra extra extra (is 12) no-operands plain nothing ∷

@@ -3,6 +3,7 @@
 use mathlib.Core.Bool.{Bool, true, false}
 use native.Mathlib.Decide.{ℕ-discrete}
 use lib.Dec.{T}
+use Rattle.word.specs.Word.{word}
 use Rattle.classes.specs.Meaning.{match, six}
 use Rattle.classes.specs.Table.{common, byWidth, table}
 use Rattle.classes.specs.Refusals.{elem, refusals}
@@ -13,6 +14,9 @@ use Rattle.classes.proofs.Find.{every}
 use Rattle.classes.proofs.Operands.{operandsIn}
 use Rattle.classes.proofs.Uses.{uses, usesForm, isRead, madeOfRead}
 use Rattle.inverse.proofs.Fill.{apart}
+use Rattle.inverse.proofs.Restored.{rotates}
+use Rattle.inverse.proofs.Tables.{first}
+use Rattle.inverse.proofs.Later.{later, follows, inOrder}
 use Rattle.inverse.proofs.Good.{least, leastIn, nopsIn, sound, sameOperands, before, twin, paired, good}
 
 sound-table : (wide : Bool) → T (every sound (table wide))
@@ -30,3 +34,13 @@ unfolding good
 good-table wide =
     and-i (exact (table wide) refusals) _ (exact-table wide)
     (and-i (numbered refusals) _ numbered-refusals (and-i (every sound (table wide)) (paired (table wide)) (sound-table wide) (paired-table wide)))
+
+pub rotating-table : (wide : Bool) → T (every rotates (table wide))
+unfolding every rotates table common byWidth
+rotating-table true = tt
+rotating-table false = tt
+
+pub ordered-table : (wide : Bool) → T (inOrder (table wide) (table wide))
+unfolding inOrder every follows later first least word table common byWidth
+ordered-table true = tt
+ordered-table false = tt

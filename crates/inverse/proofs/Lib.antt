@@ -7,5 +7,7 @@ pub mod Twins
 pub mod Tables
 pub mod Decide
 pub mod Smallest
+pub mod Restored
+pub mod Later
 pub mod Same
 pub mod Proved

@@ -10,24 +10,26 @@ use native.Mathlib.Decide.{ℕ-discrete}
 use native.Mathlib.Omega.{arith}
 use borrow.Author.Tests.{ltb-true, ltb-false}
 use lib.Dec.{ltb}
-use Rattle.word.specs.Word.{words}
+use Rattle.word.specs.Word.{fieldsOf, words}
 use Rattle.reading.specs.declared.Insn.{Insn}
 use Rattle.reading.specs.declared.Decoded.{Decoded}
 use Rattle.reading.specs.declared.Encoded.{Encoded}
 use Rattle.classes.specs.Row.{Row}
-use Rattle.classes.specs.Meaning.{intOf}
+use Rattle.classes.specs.Meaning.{find, intOf}
 use Rattle.classes.specs.Table.{table}
 use Rattle.classes.specs.Refusals.{Refusal, refusals}
 use Rattle.classes.specs.Decoded.{acceptedAs, decodedOf}
 use Rattle.classes.proofs.Accepts.{accepted-as, accepted-insn}
 use Rattle.inverse.specs.Encoded.{Has, encodedAs, Encodes, smallest, no-word}
+use Rattle.inverse.specs.Least.{Least}
 use Rattle.inverse.specs.Theorems.{Accepted, Demand3, Theorems}
 use Rattle.inverse.proofs.Good.{good}
-use Rattle.inverse.proofs.Computed.{good-table}
+use Rattle.inverse.proofs.Computed.{good-table, rotating-table}
 use Rattle.inverse.proofs.Decide.{insn}
 use Rattle.inverse.proofs.Rows.{candidate}
 use Rattle.inverse.proofs.Tables.{pick, Good, good-is}
 use Rattle.inverse.proofs.Smallest.{answerBy, operandAt, Tries, smallest-law}
+use Rattle.inverse.proofs.Restored.{least-law}
 use Rattle.inverse.proofs.Same.{same-law}
 
 abbrev encodedTo : ℕ → ℕ → Encoded
@@ -123,10 +125,22 @@ pub refused : (wide : Bool) (va : ℕ) (i : Insn) (c : ℕ) → Tries (table wid
 unfolding decodedOf
 refused wide va i c t n e p q = no-word p q (λ w h. n ((smallest-law (table wide) refusals (good-of wide) va i c t w h) .0 .reads))
 
+least : (wide : Bool) (va w : ℕ) (e : Encoded) (r : Row) → w < words →
+    Accepted (λ v. decodedOf v va wide) w → Encodes (λ v. decodedOf v va wide) ((decodedOf w va wide) .insn) e →
+    find (table wide) (fieldsOf (e .word)) ≡ some r → Least r (e .word)
+unfolding decodedOf
+least wide va = least-law (table wide) refusals (good-of wide) (rotating-table wide) va
+
 by-definition : (wide : Bool) (va : ℕ) → Demand3 (λ w. decodedOf w va wide) (table wide) va
 unfolding decodedOf
 by-definition wide va = demand3 (table wide) refusals (good-of wide) va
 
 -- DEMAND 3
 pub theorems : Theorems good
-theorems = record { definition = by-definition; tables = λ ts es t va. demand3 ts es (good-is ts es t) va; passed = good-table }
+theorems =
+    record {
+      definition = by-definition;
+      tables = λ ts es t va. demand3 ts es (good-is ts es t) va;
+      passed = good-table;
+      least = least;
+    }

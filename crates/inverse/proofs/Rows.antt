@@ -196,7 +196,7 @@ free-is (skip y) t = (tt, refl, λ u. u)
 free-is (skipBut v) t = absurd t
 free-is (low v) t = absurd t
 
-nops-row : (r : Row) → T (nopsIn r) → T (r .nops) → Nops r
+pub nops-row : (r : Row) → T (nopsIn r) → T (r .nops) → Nops r
 unfolding nopsIn
 nops-row r t n =
     record {
@@ -241,7 +241,7 @@ unfolding word
 raised-word g e = omega arith
 
 -- what such a word's fields are
-nop-fields : (g : Fields) → T (isNop (word g)) → (g rt ≡ 0) × (g rd ≡ 0) × (g sa ≤ 1)
+pub nop-fields : (g : Fields) → T (isNop (word g)) → (g rt ≡ 0) × (g rd ≡ 0) × (g sa ≤ 1)
 unfolding word
 nop-fields g t = (omega (arith, small), omega (arith, small), omega (arith, small))
   where
@@ -249,7 +249,7 @@ nop-fields g t = (omega (arith, small), omega (arith, small), omega (arith, smal
     small = ⊎-elim (λ u. omega (arith, eqb→eq (word g) 0 u)) (λ u. omega (arith, eqb→eq (word g) 64 u)) (or-e (eqb (word g) 0) (eqb (word g) 64) t)
 
 -- and a word with such fields
-like-nop : (g : Fields) → g rs ≡ 0 → g rt ≡ 0 → g rd ≡ 0 → g sa ≤ 1 → T (nopLike g)
+pub like-nop : (g : Fields) → g rs ≡ 0 → g rt ≡ 0 → g rd ≡ 0 → g sa ≤ 1 → T (nopLike g)
 unfolding nopLike
 like-nop g a b c d =
     and-i (eqb (g rs) 0) _ (at-true (eq-eqb (g rs) 0 a))

@@ -4,7 +4,7 @@ use Prim.Native.Nat.{ℕ, _≤_, _<_}
 use mathlib.Core.Path.{_≡_, refl, sym, _∙_, ap, subst, fun-ext}
 use mathlib.Core.List.{List}
 use mathlib.Core.Logic.{inl, inr}
-use mathlib.Core.Option.{Option, none, some}
+use mathlib.Core.Option.{Option, none, some, Option·some-injective}
 use native.Mathlib.Omega.{arith}
 use lib.Dec.{T}
 use lib.ListN.{length, getD}
@@ -99,36 +99,54 @@ module _ (ts : List Row) (es : List Refusal) (ok : Good ts es) (va : ℕ) where
             ∙ ap acceptedAs (ap (reading (h .kind) (h .control) (h .change)) (s .operands) ∙ near-reading h r (outs (r .form) va f) k near));
       }
 
+  -- the row that is picked for the operands of a word of row r, and what its candidate is
+  module _ (w : ℕ) (r : Row) (e : find ts (fieldsOf w) ≡ some r) where
+    abbrev pub os : List Op
+    os = outs (r .form) va (fieldsOf w)
+
+    i : In r ts × T (takes r (fieldsOf w))
+    i = find-in ts (fieldsOf w) r e
+
+    pub picked-for : (h : Row) × Picked ts r (valueIn os) h
+    picked-for = pick-law ts (ok .paired) r (i .0) (valueIn os) (own-suits r va (fieldsOf w) (fields-fit w))
+
+    abbrev pub tried-for : ℕ
+    tried-for = candidate (picked-for .0) va (length os) (nth os)
+
+    pub within-for : Within (picked-for .0) va os (fieldsOf w) tried-for
+    within-for =
+        near-within (picked-for .0) r (ok .rows (picked-for .0) (picked-for .1 .here)) (picked-for .1 .near) va (fieldsOf w) (fields-fit w) (i .1)
+        (picked-for .1 .suited)
+
+    pub has-for : Has (answerBy ts es va) (meaning r va (fieldsOf w)) tried-for
+    has-for = within-has r (picked-for .0) (fieldsOf w) tried-for (picked-for .1 .here) (picked-for .1 .kind) (picked-for .1 .near) within-for
+
+    -- no larger than the word
+    pub le-for : w < words → tried-for ≤ w
+    le-for small = subst (λ (n : ℕ). tried-for ≤ n) (word-fields w small) (within-for .le)
+
+    back : operandAt ((meaning r va (fieldsOf w)) .ops) ≡ nth os
+    back = operands-back r (ok .rows r (i .0)) va (fieldsOf w)
+
+    found-for : pick ts (r .kind) (intOf (operandAt ((meaning r va (fieldsOf w)) .ops) 1)) ≡ some (picked-for .0)
+    found-for = ap (λ (o : ℕ → Op). pick ts (r .kind) (intOf (o 1))) back ∙ picked-for .1 .found
+
+    -- it is what an encoder tries for the word's reading, and nothing else is
+    pub tries-for : Tries ts va (meaning r va (fieldsOf w)) tried-for
+    unfolding meaning reading
+    tries-for h d =
+        ap (λ (x : Row). candidate x va (length os) (nth os)) (Option·some-injective (picked-for .0) h (sym found-for ∙ d))
+        ∙ ap (candidate h va (length os)) (sym back)
+
+    is-tried : (c : ℕ) → Tries ts va (meaning r va (fieldsOf w)) c → c ≡ tried-for
+    unfolding meaning reading
+    is-tried c tries = tries (picked-for .0) found-for ∙ ap (candidate (picked-for .0) va (length os)) back
+
   of-row : (w : ℕ) → w < words → (r : Row) → find ts (fieldsOf w) ≡ some r → (c : ℕ) → Tries ts va (meaning r va (fieldsOf w)) c →
       Has (answerBy ts es va) (meaning r va (fieldsOf w)) c × (c ≤ w)
-  unfolding meaning reading
   of-row w small r e c tries =
-      (within-has r (p .0) (fieldsOf w) c (p .1 .here) (p .1 .kind) (p .1 .near) within, subst (λ (n : ℕ). c ≤ n) (word-fields w small) (within .le))
-    where
-      f : Fields
-      f = fieldsOf w
-
-      os : List Op
-      os = outs (r .form) va f
-
-      i : In r ts × T (takes r f)
-      i = find-in ts f r e
-
-      p : (h : Row) × Picked ts r (valueIn os) h
-      p = pick-law ts (ok .paired) r (i .0) (valueIn os) (own-suits r va f (fields-fit w))
-
-      back : operandAt ((meaning r va f) .ops) ≡ nth os
-      back = operands-back r (ok .rows r (i .0)) va f
-
-      is : c ≡ candidate (p .0) va (length os) (nth os)
-      is =
-          tries (p .0) (ap (λ (o : ℕ → Op). pick ts (r .kind) (intOf (o 1))) back ∙ p .1 .found)
-          ∙ ap (candidate (p .0) va (length os)) back
-
-      within : Within (p .0) va os f c
-      within =
-          subst (Within (p .0) va os f) (sym is)
-          (near-within (p .0) r (ok .rows (p .0) (p .1 .here)) (p .1 .near) va f (fields-fit w) (i .1) (p .1 .suited))
+      let is : c ≡ tried-for w r e = is-tried w r e c tries in
+      (subst (Has (answerBy ts es va) (meaning r va (fieldsOf w))) (sym is) (has-for w r e), subst (λ (n : ℕ). n ≤ w) (sym is) (le-for w r e small))
 
   -- THE LAW: if any word has the reading, what is tried has it and is no larger
   pub smallest-law : (i : Insn) (c : ℕ) → Tries ts va i c → (w : ℕ) → Has (answerBy ts es va) i w → Has (answerBy ts es va) i c × (c ≤ w)

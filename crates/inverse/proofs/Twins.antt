@@ -42,7 +42,7 @@ unsigned-same u h = by-sign (λ z. T (inUnsigned z) → z ≡ pos u) u h (λ l t
 abbrev pub valueIn : List Op → ℤ
 valueIn os = intOf (nth os 1)
 
-own-holds : (φ : Form) (va : ℕ) (f : Fields) → Fit f → T (holds φ (valueIn (outs φ va f)))
+pub own-holds : (φ : Form) (va : ℕ) (f : Fields) → Fit f → T (holds φ (valueIn (outs φ va f)))
 unfolding holds
 own-holds φ va f h =
     and-i (not (sameForm φ rt-imm) || inSigned (valueIn (outs φ va f))) (not (sameForm φ rt-uimm) || inUnsigned (valueIn (outs φ va f)))
@@ -141,7 +141,7 @@ module _ (h r : Row) (va : ℕ) (f : Fields) (fit : Fit f) where
       held : T (holds φ (valueIn (outs ψ va f)))
       held = subst (λ (χ : Form). T (holds φ (valueIn (outs χ va f)))) q (subst (λ (χ : Form). T (holds χ z)) p v)
 
-  pair-outs : T (sameOperands h r) → T (suits h z) → outs (h .form) va f ≡ outs (r .form) va f
+  pub pair-outs : T (sameOperands h r) → T (suits h z) → outs (h .form) va f ≡ outs (r .form) va f
   unfolding sameOperands suits
   pair-outs t u =
       ⊎-elim (λ y. ap (λ (φ : Form). outs φ va f) (same-form (h .form) (r .form) y)) li
@@ -193,7 +193,7 @@ before-le h r ok f fit t b = ⊎-elim smaller-op no-larger (or-e smaller same-or
         word-mono (lift h f) f
         (λ x. lift-le h ok f x (le-trans (leb→le (base h x) (base r x) (six-at (λ y. leb (base h y) (base r y)) u x)) (least-at x)))
 
-no-nops : (nops : Bool) (w : ℕ) → T (not nops) → afterNops nops w ≡ w
+pub no-nops : (nops : Bool) (w : ℕ) → T (not nops) → afterNops nops w ≡ w
 unfolding afterNops
 no-nops true w n = absurd n
 no-nops false w n = refl

@@ -1,3 +1,4 @@
 pub mod Same
 pub mod Encoded
+pub mod Least
 pub mod Theorems

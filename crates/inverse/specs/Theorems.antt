@@ -6,17 +6,20 @@ use mathlib.Core.Path.{_≡_}
 use mathlib.Core.Bool.{Bool}
 use mathlib.Core.List.{List}
 use mathlib.Core.Logic.{_↔_}
+use mathlib.Core.Option.{some}
 use lib.Dec.{T}
 use Rattle.word.specs.Word.{fieldsOf, words}
 use Rattle.reading.specs.declared.Insn.{Insn}
 use Rattle.reading.specs.declared.Decoded.{Decoded}
 use Rattle.reading.specs.declared.Encoded.{Encoded}
 use Rattle.classes.specs.Row.{Row}
+use Rattle.classes.specs.Meaning.{find}
 use Rattle.classes.specs.Table.{table}
 use Rattle.classes.specs.Refusals.{Refusal, refusals}
 use Rattle.classes.specs.Decoded.{decodedBy, decodedOf}
 use Rattle.inverse.specs.Same.{Alike}
 use Rattle.inverse.specs.Encoded.{Encodes}
+use Rattle.inverse.specs.Least.{Least}
 
 abbrev pub Accepted : (ℕ → Decoded) → ℕ → Type 0
 Accepted answer w = (answer w) .number ≡ 0
@@ -38,3 +41,7 @@ pub record Theorems (test : List Row → List Refusal → Bool) : Type 0 where
   pub definition : (wide : Bool) (va : ℕ) → Demand3 (λ w. decodedOf w va wide) (table wide) va
   pub tables : (ts : List Row) (es : List Refusal) → T (test ts es) → (va : ℕ) → Demand3 (λ w. decodedBy ts es va (fieldsOf w)) ts va
   pub passed : (wide : Bool) → T (test (table wide) refusals)
+  -- the word that the reading of an accepted word gets has zeros in what its class does not read, or needs rs 1
+  pub least : (wide : Bool) (va w : ℕ) (e : Encoded) (r : Row) → w < words →
+      Accepted (λ v. decodedOf v va wide) w → Encodes (λ v. decodedOf v va wide) ((decodedOf w va wide) .insn) e →
+      find (table wide) (fieldsOf (e .word)) ≡ some r → Least r (e .word)

@@ -15,6 +15,7 @@ use Rattle.manual.specs.Page.{Line}
 use Rattle.manual.specs.Agreement.{firstLine}
 use Rattle.manual.proofs.Axes.{Axis, roomOf, coord, coord-fits, axes, askLine}
 use Rattle.manual.proofs.Verdict.{Part, verdict, together}
+use Rattle.manual.proofs.Swaps.{restores}
 use Rattle.manual.proofs.Left.{Boxed, askRow, askEntry, askPart, boxed, leftParts, headLine, headRow, headNumber, lines-left, rows-left}
 use Rattle.manual.proofs.Left.{entries-left}
 
@@ -37,12 +38,14 @@ free x s = freeIn askRow x (s .rows) && (freeIn askEntry x (s .entries) && (free
 unfoldable pub mark : Axis → ℕ → State → ℕ
 mark x v s = markIn askRow x v (s .rows) (markIn askEntry x v (s .entries) (markIn askLine x v (s .lines) (markIn askPart x v (s .parts) 0)))
 
-unfoldable pub good : State → Bool
-good s = verdict (headLine (s .lines)) (headRow (s .rows)) (headNumber (s .entries)) (s .parts) && together (s .parts)
+unfoldable pub good : List Row → State → Bool
+good ts s =
+    verdict (headLine (s .lines)) (headRow (s .rows)) (headNumber (s .entries)) (s .parts)
+    && (together (s .parts) && restores ts (headLine (s .lines)) (headRow (s .rows)) (s .parts))
 
 -- THE TEST, for any tables
 unfoldable pub sound : List Row → List Refusal → List Line → List Part → Bool
-sound ts es ls ps = walk roomOf keep free mark good axes (state (boxed ts) es ls ps)
+sound ts es ls ps = walk roomOf keep free mark (good ts) axes (state (boxed ts) es ls ps)
 
 state-same : (s t : State) → s .rows ≡ t .rows → s .entries ≡ t .entries → s .lines ≡ t .lines → s .parts ≡ t .parts → s ≡ t
 state-same s t a b c d = λ i. state (a i) (b i) (c i) (d i)
@@ -68,9 +71,11 @@ mark-kept x u v s e =
 
 -- then what is left for a word passes
 pub sound-at : (ts : List Row) (es : List Refusal) (ls : List Line) (ps : List Part) → T (sound ts es ls ps) → (f : Fields) → Fit f →
-    T (verdict (firstLine ls f) (find ts f) (refusal es f) (leftParts ps f) && together (leftParts ps f))
+    T (verdict (firstLine ls f) (find ts f) (refusal es f) (leftParts ps f)
+    && (together (leftParts ps f) && restores ts (firstLine ls f) (find ts f) (leftParts ps f)))
 unfolding sound good left keep
-sound-at ts es ls ps t f h = subst T (λ i. verdict (first i) (taker i) (number i) (covering i) && together (covering i)) passed
+sound-at ts es ls ps t f h =
+    subst T (λ i. verdict (first i) (taker i) (number i) (covering i) && (together (covering i) && restores ts (first i) (taker i) (covering i))) passed
   where
     end : State
     end = left roomOf keep free mark axes (state (boxed ts) es ls ps) (coord f)
@@ -87,5 +92,5 @@ sound-at ts es ls ps t f h = subst T (λ i. verdict (first i) (taker i) (number 
     covering : end .parts ≡ leftParts ps f
     covering = left-sift askPart roomOf (freeIn askPart) (λ x v l. 0) axes ps (coord f)
 
-    passed : T (good end)
-    passed = walked roomOf keep free mark free-kept mark-kept good axes (state (boxed ts) es ls ps) (coord f) (coord-fits f h) t
+    passed : T (good ts end)
+    passed = walked roomOf keep free mark free-kept mark-kept (good ts) axes (state (boxed ts) es ls ps) (coord f) (coord-fits f h) t

@@ -4,8 +4,10 @@ pub mod Slots
 pub mod Verdict
 pub mod Lines
 pub mod Left
+pub mod Swaps
 pub mod Computed
 pub mod Tables
 pub mod Proved
 pub mod Shown
+pub mod Patched
 pub mod Reasons

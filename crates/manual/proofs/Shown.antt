@@ -8,12 +8,16 @@ use native.Mathlib.Omega.{arith}
 use lib.Dec.{T, eqb, eqb→eq}
 use Rattle.word.specs.Word.{Fields, fieldsOf}
 use Rattle.reading.specs.Kind.{from}
+use Rattle.word.specs.Numbers.{imm, signed, branchTo}
+use Rattle.classes.specs.Meaning.{match, six, nopLike, takes, find, out, outs, reading, meaning}
+use Rattle.classes.specs.Table.{common, byWidth, table}
 use Rattle.classes.specs.Refusals.{elem, holds, meets}
+use Rattle.classes.specs.Decoded.{decodedBy, decodedOf}
 use Rattle.classes.proofs.Tests.{and-l, and-r}
 use Rattle.manual.specs.Page.{related, true-of, claimed, obeys}
 use Rattle.manual.specs.Exceptions.{Difference, flagged, among, covers, refusedWords, otherReadings, reservedWords, differences}
-use Rattle.manual.specs.Agreement.{anyCovers, covering, Each}
-use Rattle.manual.specs.Tight.{Shown, Tight}
+use Rattle.manual.specs.Agreement.{anyCovers, covering, anyPast, Each}
+use Rattle.manual.specs.Tight.{Shown, ShownPast, Tight}
 use Rattle.manual.proofs.Proved.{manual}
 
 -- what an exception's example is: its own word, and nobody else's
@@ -57,5 +61,10 @@ unfolding all-show
 all-shown [] t = tt
 all-shown (d ∷ ds) t = (shown d (and-l (shows-itself d) (all-show ds) t), all-shown ds (and-r (shows-itself d) (all-show ds) t))
 
+past-shown : ShownPast
+unfolding anyPast covering covers among flagged obeys meets holds elem from claimed true-of related refusedWords otherReadings reservedWords differences
+    decodedOf decodedBy table common byWidth find takes six match nopLike fieldsOf meaning reading outs out imm signed branchTo
+past-shown = record { past = refl; alone = refl; differ = manual 0x04000000 0xfffffffc false .past refl .0 }
+
 pub tight : Tight
-tight = all-shown differences examples-show
+tight = record { each = all-shown differences examples-show; past = past-shown }

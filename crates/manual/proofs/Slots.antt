@@ -1,7 +1,7 @@
 -- Operands of the manual and of a row side by side: what a Format line's operand is made of, in the row's words, and that the two then
 -- mean the same for every word.
 -- Assumes nothing.
-use Prim.Native.Nat.{ℕ, _+_, _*_}
+use Prim.Native.Nat.{ℕ, _+_, _*_, _%_, _^_}
 use mathlib.Core.Path.{_≡_, refl, sym, _∙_, ap, ap₂, subst}
 use mathlib.Core.Bool.{Bool, true, false, not, cond, _&&_, _||_}
 use mathlib.Core.List.{List, [], _∷_, map, cons-ne-nil}
@@ -19,8 +19,8 @@ use Rattle.classes.specs.Refusals.{Test, _one-of_, _none-of_, elem, holds, meet
 use Rattle.classes.proofs.Tests.{and-l, and-r, decided, same-field}
 use Rattle.manual.specs.Page.{Name, Base, Offset, InstrIndex, sameName, Column, is, box, over, under, part, Page, columnOf, value}
 use Rattle.manual.specs.Page.{Arg, gpr, fpr, fcr, hwr, cp0, cp2, unsigned, signed16, plus, span, offset-base, index-base, pc-relative}
-use Rattle.manual.specs.Page.{in-region, Meant, GPR, FPR, CP0, number, memory, address, meantBy}
-use Rattle.manual.specs.Agreement.{shows}
+use Rattle.manual.specs.Page.{in-region, pcBits, Meant, GPR, FPR, CP0, number, memory, address, meantBy, meantIn}
+use Rattle.manual.specs.Agreement.{shows, held}
 use Rattle.manual.proofs.Same.{sameList, same-list, sameFields, same-fields}
 
 -- ── where a field of a page stands ──
@@ -161,52 +161,53 @@ on-column k [] s e P h = absurd (Option·none-ne-some s e)
 on-column k (x ∷ []) s e P h = subst P (Option·some-injective (k x) s e) (h x refl)
 on-column k (x ∷ y ∷ xs) s e P h = absurd (Option·none-ne-some s e)
 
--- what the operand of the Format line means is what the row's operand shows
-pub slot-meant : (p : Page) (a : Arg) (s : Slot) → slotOf p a ≡ some s → (va : ℕ) (f : Fields) → meantBy a va (value p f) ≡ shows (slotOut s va f)
+-- what the operand of the Format line means is what the row's operand shows, as far as the PC holds it
+pub slot-meant : (p : Page) (a : Arg) (s : Slot) → slotOf p a ≡ some s → (wide : Bool) (va : ℕ) (f : Fields) →
+    meantBy a wide va (value p f) ≡ held wide (shows (slotOut s va f))
 unfolding slotOf meantBy slotOut out
-slot-meant p (gpr n) s e va f = on-column _ (spots p n) s e (λ t. GPR (value p f n) ≡ shows (slotOut t va f)) (λ x d. ap GPR (value-at p f n x d))
-slot-meant p (fpr n) s e va f = on-column _ (spots p n) s e (λ t. FPR (value p f n) ≡ shows (slotOut t va f)) (λ x d. ap FPR (value-at p f n x d))
-slot-meant p (fcr n) s e va f = absurd (Option·none-ne-some s e)
-slot-meant p (hwr n) s e va f = absurd (Option·none-ne-some s e)
-slot-meant p (cp0 n) s e va f = on-column _ (spots p n) s e (λ t. CP0 (value p f n) ≡ shows (slotOut t va f)) (λ x d. ap CP0 (value-at p f n x d))
-slot-meant p (cp2 n) s e va f = absurd (Option·none-ne-some s e)
-slot-meant p (unsigned n) s e va f = go (sameFields (spots p n) low16) refl e
+slot-meant p (gpr n) s e wide va f = on-column _ (spots p n) s e (λ t. GPR (value p f n) ≡ held wide (shows (slotOut t va f))) (λ x d. ap GPR (value-at p f n x d))
+slot-meant p (fpr n) s e wide va f = on-column _ (spots p n) s e (λ t. FPR (value p f n) ≡ held wide (shows (slotOut t va f))) (λ x d. ap FPR (value-at p f n x d))
+slot-meant p (fcr n) s e wide va f = absurd (Option·none-ne-some s e)
+slot-meant p (hwr n) s e wide va f = absurd (Option·none-ne-some s e)
+slot-meant p (cp0 n) s e wide va f = on-column _ (spots p n) s e (λ t. CP0 (value p f n) ≡ held wide (shows (slotOut t va f))) (λ x d. ap CP0 (value-at p f n x d))
+slot-meant p (cp2 n) s e wide va f = absurd (Option·none-ne-some s e)
+slot-meant p (unsigned n) s e wide va f = go (sameFields (spots p n) low16) refl e
   where
     go : (b : Bool) → sameFields (spots p n) low16 ≡ b → cond b (some (plain u16)) (onColumn (λ x. plain (num x)) (spots p n)) ≡ some s →
-        number (pos (value p f n)) ≡ shows (slotOut s va f)
-    go true d c = subst (λ (t : Slot). number (pos (value p f n)) ≡ shows (slotOut t va f)) (Option·some-injective (plain u16) s c)
+        number (pos (value p f n)) ≡ held wide (shows (slotOut s va f))
+    go true d c = subst (λ (t : Slot). number (pos (value p f n)) ≡ held wide (shows (slotOut t va f))) (Option·some-injective (plain u16) s c)
         (ap (λ (k : ℕ). number (pos k)) (value-low16 p f n (same-fields (spots p n) low16 (subst T (sym d) tt))))
-    go false d c = on-column _ (spots p n) s c (λ t. number (pos (value p f n)) ≡ shows (slotOut t va f)) (λ x h. ap (λ (k : ℕ). number (pos k)) (value-at p f n x h))
-slot-meant p (signed16 n) s e va f =
+    go false d c = on-column _ (spots p n) s c (λ t. number (pos (value p f n)) ≡ held wide (shows (slotOut t va f))) (λ x h. ap (λ (k : ℕ). number (pos k)) (value-at p f n x h))
+slot-meant p (signed16 n) s e wide va f =
     let r = when-some (sameFields (spots p n) low16) (plain s16) s e in
-    subst (λ (t : Slot). number (signed 16 (value p f n)) ≡ shows (slotOut t va f)) (r .1)
+    subst (λ (t : Slot). number (signed 16 (value p f n)) ≡ held wide (shows (slotOut t va f))) (r .1)
     (ap (λ (k : ℕ). number (signed 16 k)) (value-low16 p f n (same-fields (spots p n) low16 (r .0))))
-slot-meant p (plus k n) s e va f =
+slot-meant p (plus k n) s e wide va f =
     let r = when-some (eqb k 1 && sameFields (spots p n) (rd ∷ [])) (plain size) s e in
-    subst (λ (t : Slot). number (pos (value p f n + k)) ≡ shows (slotOut t va f)) (r .1)
+    subst (λ (t : Slot). number (pos (value p f n + k)) ≡ held wide (shows (slotOut t va f))) (r .1)
     (ap₂ (λ (i j : ℕ). number (pos (i + j))) (value-at p f n rd (same-fields (spots p n) (rd ∷ []) (and-r (eqb k 1) _ (r .0))))
     (eqb→eq k 1 (and-l (eqb k 1) _ (r .0))))
-slot-meant p (span k m l) s e va f =
+slot-meant p (span k m l) s e wide va f =
     let r = when-some (eqb k 0 && (sameFields (spots p m) (rd ∷ []) && sameFields (spots p l) (sa ∷ []))) insSize s e in
     let none-added : k ≡ 0 = eqb→eq k 0 (and-l (eqb k 0) _ (r .0)) in
     let last : value p f m ≡ f rd = value-at p f m rd (same-fields (spots p m) (rd ∷ []) (and-l (sameFields (spots p m) (rd ∷ [])) _ (and-r (eqb k 0) _ (r .0)))) in
     let first : value p f l ≡ f sa = value-at p f l sa (same-fields (spots p l) (sa ∷ []) (and-r (sameFields (spots p m) (rd ∷ [])) _ (and-r (eqb k 0) _ (r .0)))) in
     let sum : value p f m + k ≡ f rd = omega (arith, none-added, last) in
-    subst (λ (t : Slot). number (sizeOf (value p f m + k) (value p f l)) ≡ shows (slotOut t va f)) (r .1) (ap₂ (λ (i j : ℕ). number (sizeOf i j)) sum first)
-slot-meant p offset-base s e va f =
+    subst (λ (t : Slot). number (sizeOf (value p f m + k) (value p f l)) ≡ held wide (shows (slotOut t va f))) (r .1) (ap₂ (λ (i j : ℕ). number (sizeOf i j)) sum first)
+slot-meant p offset-base s e wide va f =
     let r = when-some (sameFields (spots p Offset) low16 && sameFields (spots p Base) (rs ∷ [])) (plain mem) s e in
-    subst (λ (t : Slot). memory (signed 16 (value p f Offset)) (value p f Base) ≡ shows (slotOut t va f)) (r .1)
+    subst (λ (t : Slot). memory (signed 16 (value p f Offset)) (value p f Base) ≡ held wide (shows (slotOut t va f))) (r .1)
     (ap₂ (λ (i j : ℕ). memory (signed 16 i) j) (value-low16 p f Offset (same-fields (spots p Offset) low16 (and-l (sameFields (spots p Offset) low16) _ (r .0))))
     (value-at p f Base rs (same-fields (spots p Base) (rs ∷ []) (and-r (sameFields (spots p Offset) low16) _ (r .0)))))
-slot-meant p index-base s e va f = absurd (Option·none-ne-some s e)
-slot-meant p pc-relative s e va f =
+slot-meant p index-base s e wide va f = absurd (Option·none-ne-some s e)
+slot-meant p pc-relative s e wide va f =
     let r = when-some (sameFields (spots p Offset) low16) (plain br) s e in
-    subst (λ (t : Slot). address (branchTo va (value p f Offset)) ≡ shows (slotOut t va f)) (r .1)
-    (ap (λ (k : ℕ). address (branchTo va k)) (value-low16 p f Offset (same-fields (spots p Offset) low16 (r .0))))
-slot-meant p in-region s e va f =
+    subst (λ (t : Slot). address (branchTo va (value p f Offset) % 2 ^ pcBits wide) ≡ held wide (shows (slotOut t va f))) (r .1)
+    (ap (λ (k : ℕ). address (branchTo va k % 2 ^ pcBits wide)) (value-low16 p f Offset (same-fields (spots p Offset) low16 (r .0))))
+slot-meant p in-region s e wide va f =
     let r = when-some (sameFields (spots p InstrIndex) low26) (plain jmp) s e in
-    subst (λ (t : Slot). address (jumpTo va (value p f InstrIndex)) ≡ shows (slotOut t va f)) (r .1)
-    (ap (λ (k : ℕ). address (jumpTo va k)) (value-low26 p f InstrIndex (same-fields (spots p InstrIndex) low26 (r .0))))
+    subst (λ (t : Slot). address (jumpTo va (value p f InstrIndex) % 2 ^ pcBits wide) ≡ held wide (shows (slotOut t va f))) (r .1)
+    (ap (λ (k : ℕ). address (jumpTo va k % 2 ^ pcBits wide)) (value-low26 p f InstrIndex (same-fields (spots p InstrIndex) low26 (r .0))))
 
 -- ── the operands of a row ──
 
@@ -288,20 +289,20 @@ unfoldable pub lineSlots : Page → List Arg → Option (List Slot)
 lineSlots p [] = some []
 lineSlots p (a ∷ xs) = elim (slotOf p a) [ none ↦ none | some s ↦ withFirst s (lineSlots p xs) ]
 
-pub line-meant : (p : Page) (xs : List Arg) (l : List Slot) → lineSlots p xs ≡ some l → (va : ℕ) (f : Fields) →
-    map (λ a. meantBy a va (value p f)) xs ≡ map shows (slotOuts va f l)
+pub line-meant : (p : Page) (xs : List Arg) (l : List Slot) → lineSlots p xs ≡ some l → (wide : Bool) (va : ℕ) (f : Fields) →
+    meantIn p xs wide va f ≡ map (held wide) (map shows (slotOuts va f l))
 unfolding lineSlots
-line-meant p [] l e va f = ap (λ (k : List Slot). map shows (slotOuts va f k)) (Option·some-injective [] l e)
-line-meant p (a ∷ xs) l e va f = go (slotOf p a) refl (lineSlots p xs) refl e (λ k d. line-meant p xs k d va f)
+line-meant p [] l e wide va f = ap (λ (k : List Slot). map (held wide) (map shows (slotOuts va f k))) (Option·some-injective [] l e)
+line-meant p (a ∷ xs) l e wide va f = go (slotOf p a) refl (lineSlots p xs) refl e (λ k d. line-meant p xs k d wide va f)
   where
     go : (o : Option Slot) → slotOf p a ≡ o → (q : Option (List Slot)) → lineSlots p xs ≡ q → elim o [ none ↦ none | some s ↦ withFirst s q ] ≡ some l →
-        ((k : List Slot) → lineSlots p xs ≡ some k → map (λ b. meantBy b va (value p f)) xs ≡ map shows (slotOuts va f k)) →
-        meantBy a va (value p f) ∷ map (λ b. meantBy b va (value p f)) xs ≡ map shows (slotOuts va f l)
+        ((k : List Slot) → lineSlots p xs ≡ some k → meantIn p xs wide va f ≡ map (held wide) (map shows (slotOuts va f k))) →
+        meantBy a wide va (value p f) ∷ meantIn p xs wide va f ≡ map (held wide) (map shows (slotOuts va f l))
     go none d q c h rec = absurd (Option·none-ne-some l h)
     go (some s) d none c h rec = absurd (Option·none-ne-some l h)
     go (some s) d (some k) c h rec =
-        ap₂ (λ (m : Meant) (ms : List Meant). m ∷ ms) (slot-meant p a s d va f) (rec k c)
-        ∙ ap (λ (j : List Slot). map shows (slotOuts va f j)) (Option·some-injective (s ∷ k) l h)
+        ap₂ (λ (m : Meant) (ms : List Meant). m ∷ ms) (slot-meant p a s d wide va f) (rec k c)
+        ∙ ap (λ (j : List Slot). map (held wide) (map shows (slotOuts va f j))) (Option·some-injective (s ∷ k) l h)
 
 abbrev sameSlots : List Slot → List Slot → Bool
 sameSlots k l = sameList sameSlot k l
@@ -318,15 +319,15 @@ sameLists (some k) (some l) = sameSlots k l
 unfoldable pub sameOperands : Page → List Test → List Arg → Form → Bool
 sameOperands p ts xs φ = sameLists (lineSlots p xs) (formSlots ts φ)
 
-pub operands-meant : (p : Page) (ts : List Test) (xs : List Arg) (φ : Form) → T (sameOperands p ts xs φ) → (va : ℕ) (f : Fields) → T (meets ts f) →
-    map shows (outs φ va f) ≡ map (λ a. meantBy a va (value p f)) xs
+pub operands-meant : (p : Page) (ts : List Test) (xs : List Arg) (φ : Form) → T (sameOperands p ts xs φ) → (wide : Bool) (va : ℕ) (f : Fields) →
+    T (meets ts f) → map (held wide) (map shows (outs φ va f)) ≡ meantIn p xs wide va f
 unfolding sameOperands
-operands-meant p ts xs φ h va f t = go (lineSlots p xs) refl (formSlots ts φ) refl h
+operands-meant p ts xs φ h wide va f t = go (lineSlots p xs) refl (formSlots ts φ) refl h
   where
     go : (o : Option (List Slot)) → lineSlots p xs ≡ o → (q : Option (List Slot)) → formSlots ts φ ≡ q → T (sameLists o q) →
-        map shows (outs φ va f) ≡ map (λ a. meantBy a va (value p f)) xs
+        map (held wide) (map shows (outs φ va f)) ≡ meantIn p xs wide va f
     go none d q c w = absurd w
     go (some k) d none c w = absurd w
     go (some k) d (some l) c w =
-        ap (map shows) (form-outs ts φ l c va f t)
-        ∙ (ap (λ (j : List Slot). map shows (slotOuts va f j)) (sym (same-slots k l w)) ∙ sym (line-meant p xs k d va f))
+        ap (λ (os : List Op). map (held wide) (map shows os)) (form-outs ts φ l c va f t)
+        ∙ (ap (λ (j : List Slot). map (held wide) (map shows (slotOuts va f j))) (sym (same-slots k l w)) ∙ sym (line-meant p xs k d wide va f))

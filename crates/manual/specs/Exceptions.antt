@@ -1,4 +1,5 @@
 -- THE DIFFERENCES between the manuals and the source, each under a name: the words that it covers, and what the source answers there.
+-- One more, which depends on a word's address, is `target-past-pc` in Agreement.antt.
 -- docs/DIFFERENCES.md has them under the same names, with an example and the manual's words.
 -- Assumes nothing.
 use Prim.Native.Nat.{ℕ, _+_}
@@ -10,7 +11,8 @@ use Rattle.classes.specs.Row.{Form, link}
 use Rattle.classes.specs.Table.{no-operands, one-rs, one-rd, rd-rs, rd-rt, rs-rt, rd-rs-rt, rd-rt-rs, rd-rt-sa, offset, rs-offset, rt-imm, rt-uimm}
 use Rattle.classes.specs.Table.{rt-rs-imm, rt-base, rt-cop0, rt-fs, fd-fs-ft, fd-fs, fs-ft, ext-pos-size, ins-pos-size, rt-hwr}
 use Rattle.classes.specs.Refusals.{Test, _one-of_, _none-of_, _to_, only}
-use Rattle.classes.specs.Unread.{shiftsByConstant, variableShifts, multiplyDivide, traps, movesCop1, bc1Words}
+use Rattle.classes.specs.Unread.{shiftsByConstant, variableShifts, multiplyDivide, movesCop1}
+use Rattle.manual.specs.Page.{Name, Cc, Code, Stype, Sel}
 use Rattle.manual.specs.Page.{Claim, holds, fails, rs-is-rd, rt-is-rd, inside, ordered, Rules, obeys}
 
 -- ── the names ──
@@ -48,6 +50,7 @@ pub record Sort : Type 0 where
 pub data Answer : Type 0 where
   refused : ℕ → Answer  -- refuses with this number
   reads : List Sort → Answer  -- reads one of these mnemonics, with its operands
+  drops : Name → Answer  -- reads what the manual has, but leaves this field out
 
 -- a word that shows the difference, and a width flag under which it does
 pub record Example : Type 0 where
@@ -174,8 +177,8 @@ refusedWords =
     difference paired-single (narrow 0x46c00000)
     (all-with (float (only 22) (0 ∷ 1 ∷ 2 ∷ 18 ∷ 19 ∷ 44 to 47) []) ∷
     all-with (float (only 22) (5 ∷ 6 ∷ 7 ∷ 32 ∷ 40 ∷ []) (clear rt ∷ [])) ∷
-    all-with (float (only 22) (only 17) (rt one-of (ending-in 0 ++ ending-in 1) ∷ [])) ∷
-    all-with (float (only 22) (48 to 63) (sa one-of ending-in 0 ∷ [])) ∷
+    all-with (float (only 22) (only 17) (rt one-of (0 ∷ 1 ∷ 8 ∷ 9 ∷ 16 ∷ 17 ∷ 24 ∷ 25 ∷ []) ∷ [])) ∷
+    all-with (float (only 22) (48 to 63) (sa one-of (0 ∷ 8 ∷ 16 ∷ 24 ∷ []) ∷ [])) ∷
     [])
     (refused 6) ∷
     difference cop2 (narrow 0x48000000)
@@ -220,16 +223,18 @@ otherReadings =
     (reading-as (only kind.jalr) link) ∷
     difference sync-stype (narrow 0x0000004f)
     (all-with (special (only 15) (clear rs ∷ clear rt ∷ clear rd ∷ set sa ∷ [])) ∷ [])
-    (reading-as (only kind.sync) no-operands) ∷
+    (drops Stype) ∷
     difference cop0-sel (narrow 0x40000001)
     (all-with (cop0-rs (0 ∷ 4 ∷ []) (clear sa ∷ fn one-of (1 to 7) ∷ [])) ∷ [])
-    (reading-as (kind.mfc0 ∷ kind.mtc0 ∷ []) rt-cop0) ∷
-    difference branch-cc (narrow 0x45040000) (all-with (cop1-rs (only 8) (rt one-of (4 to 31) ∷ [])) ∷ []) (reading-as bc1Words offset) ∷
+    (drops Sel) ∷
+    difference branch-cc (narrow 0x45040000) (all-with (cop1-rs (only 8) (rt one-of (4 to 31) ∷ [])) ∷ []) (drops Cc) ∷
     difference compare-cc (narrow 0x46000132)
     (all-with (float single-double (50 ∷ 60 ∷ 62 ∷ []) (sa one-of ending-in 0 ∷ set sa ∷ [])) ∷ [])
-    (reading-as (kind.c-eq-s ∷ kind.c-lt-s ∷ kind.c-le-s ∷ kind.c-eq-d ∷ kind.c-lt-d ∷ kind.c-le-d ∷ []) fs-ft) ∷
+    (drops Cc) ∷
     difference control-register-as-float (narrow 0x44400000)
-    (all-with (cop1-rs (2 ∷ 6 ∷ []) (rd one-of (0 ∷ 25 ∷ 26 ∷ 28 ∷ 31 ∷ []) ∷ clear sa ∷ clear fn ∷ [])) ∷ [])
+    (all-with (cop1-rs (only 2) (rd one-of (0 ∷ 25 ∷ 26 ∷ 28 ∷ 31 ∷ []) ∷ clear sa ∷ clear fn ∷ [])) ∷
+    all-with (cop1-rs (only 6) (rd one-of (25 ∷ 26 ∷ 28 ∷ 31 ∷ []) ∷ clear sa ∷ clear fn ∷ [])) ∷
+    [])
     (reading-as (kind.cfc1 ∷ kind.ctc1 ∷ []) rt-fs) ∷
     difference hardware-register-as-number (narrow 0x7c00003b)
     (all-with (special3 (only 59) (clear rs ∷ rd none-of (4 to 28) ∷ clear sa ∷ [])) ∷ [])
@@ -240,20 +245,34 @@ otherReadings =
     all-with (special (12 ∷ 13 ∷ []) (set rd ∷ [])) ∷
     all-with (special (12 ∷ 13 ∷ []) (set sa ∷ [])) ∷
     [])
-    (reading-as (kind.syscall ∷ kind.break ∷ []) no-operands) ∷
+    (drops Code) ∷
     difference trap-code (narrow 0x00000070)
     (all-with (special (48 to 52 ++ 54 ∷ []) (set rd ∷ [])) ∷ all-with (special (48 to 52 ++ 54 ∷ []) (set sa ∷ [])) ∷ [])
-    (reading-as traps rs-rt) ∷
+    (drops Code) ∷
     difference wait-code (narrow 0x42000060)
     (all-with (cop0-rs (only 16) (fn one-of only 32 ∷ set rt ∷ [])) ∷
     all-with (cop0-rs (only 16) (fn one-of only 32 ∷ set rd ∷ [])) ∷
     all-with (cop0-rs (only 16) (fn one-of only 32 ∷ set sa ∷ [])) ∷
     [])
-    (reading-as (only kind.wait) no-operands) ∷
+    (drops Code) ∷
     difference bgez-zero-as-b (narrow 0x04010000) (all-with (regimm (only 1) (clear rs ∷ [])) ∷ []) (reading-as (only kind.b) offset) ∷
     []
 
 -- ── the source reads it, the manual reserves it or calls it unpredictable ──
+
+-- mnemonics in formats that the manual reserves: with three operands, with two, compares
+abbrev pub reservedThree : List ℕ
+reservedThree =
+    kind.add-w ∷ kind.sub-w ∷ kind.mul-w ∷ kind.div-w ∷ kind.add-l ∷ kind.sub-l ∷ kind.mul-l ∷ kind.div-l ∷ []
+
+abbrev pub reservedTwo : List ℕ
+reservedTwo =
+    kind.cvt-s-s ∷ kind.cvt-d-d ∷ kind.sqrt-w ∷ kind.abs-w ∷ kind.mov-w ∷ kind.neg-w ∷ kind.trunc-w-w ∷ kind.cvt-w-w ∷
+    kind.cvt-l-w ∷ kind.sqrt-l ∷ kind.abs-l ∷ kind.mov-l ∷ kind.neg-l ∷ kind.trunc-w-l ∷ kind.cvt-w-l ∷ kind.cvt-l-l ∷
+    []
+
+abbrev pub reservedCompares : List ℕ
+reservedCompares = kind.c-eq-w ∷ kind.c-lt-w ∷ kind.c-le-w ∷ kind.c-eq-l ∷ kind.c-lt-l ∷ kind.c-le-l ∷ []
 
 unfoldable pub reservedWords : List Difference
 reservedWords =
@@ -323,7 +342,9 @@ reservedWords =
     (all-with (cop1-rs (0 ∷ 1 ∷ 2 ∷ 4 ∷ 5 ∷ 6 ∷ []) (set sa ∷ [])) ∷ all-with (cop1-rs (0 ∷ 1 ∷ 2 ∷ 4 ∷ 5 ∷ 6 ∷ []) (set fn ∷ [])) ∷ [])
     (reading-as movesCop1 rt-fs) ∷
     difference no-such-control-register (narrow 0x44400800)
-    (all-with (cop1-rs (2 ∷ 6 ∷ []) (rd none-of (0 ∷ 25 ∷ 26 ∷ 28 ∷ 31 ∷ []) ∷ clear sa ∷ clear fn ∷ [])) ∷ [])
+    (all-with (cop1-rs (only 2) (rd none-of (0 ∷ 25 ∷ 26 ∷ 28 ∷ 31 ∷ []) ∷ clear sa ∷ clear fn ∷ [])) ∷
+    all-with (cop1-rs (only 6) (rd none-of (25 ∷ 26 ∷ 28 ∷ 31 ∷ []) ∷ clear sa ∷ clear fn ∷ [])) ∷
+    [])
     (reading-as (kind.cfc1 ∷ kind.ctc1 ∷ []) rt-fs) ∷
     difference one-source-with-ft (narrow 0x46010004)
     (all-with (float single-double (4 to 7 ++ 13 ∷ 36 ∷ 37 ∷ []) (set rt ∷ [])) ∷
@@ -343,14 +364,7 @@ reservedWords =
     all-with (float (only 17) (only 33) []) ∷
     all-with (float (20 ∷ 21 ∷ []) (0 to 7 ++ 13 ∷ 36 ∷ 37 ∷ 50 ∷ 60 ∷ 62 ∷ []) []) ∷
     [])
-    (reads
-    (sort (kind.add-w ∷ kind.sub-w ∷ kind.mul-w ∷ kind.div-w ∷ kind.add-l ∷ kind.sub-l ∷ kind.mul-l ∷ kind.div-l ∷ []) fd-fs-ft ∷
-    sort
-    (kind.cvt-s-s ∷ kind.cvt-d-d ∷ kind.sqrt-w ∷ kind.abs-w ∷ kind.mov-w ∷ kind.neg-w ∷ kind.trunc-w-w ∷ kind.cvt-w-w ∷ kind.cvt-l-w ∷
-    kind.sqrt-l ∷ kind.abs-l ∷ kind.mov-l ∷ kind.neg-l ∷ kind.trunc-w-l ∷ kind.cvt-w-l ∷ kind.cvt-l-l ∷ [])
-    fd-fs ∷
-    sort (kind.c-eq-w ∷ kind.c-lt-w ∷ kind.c-le-w ∷ kind.c-eq-l ∷ kind.c-lt-l ∷ kind.c-le-l ∷ []) fs-ft ∷
-    [])) ∷
+    (reads (sort reservedThree fd-fs-ft ∷ sort reservedTwo fd-fs ∷ sort reservedCompares fs-ft ∷ [])) ∷
     difference madd-with-zero-bits-set (narrow 0x70000040)
     (all-with (special2 (0 ∷ 1 ∷ 4 ∷ []) (set rd ∷ [])) ∷ all-with (special2 (0 ∷ 1 ∷ 4 ∷ []) (set sa ∷ [])) ∷ [])
     (reading-as (kind.madd ∷ kind.maddu ∷ kind.msub ∷ []) rs-rt) ∷

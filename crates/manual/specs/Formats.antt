@@ -200,9 +200,19 @@ always = rules [] []
 abbrev pub rs-not-31 : Rules
 rs-not-31 = rules (rs none-of only 31 ∷ []) []
 
--- rs and rd must not be equal, for the same reason
-abbrev pub rs-not-rd : Rules
-rs-not-rd = rules [] (fails rs-is-rd ∷ [])
+-- the hint is 0, or 16 with the hazard barrier; other values have no meaning in release 2
+abbrev pub hint-0 : Rules
+hint-0 = rules (sa one-of only 0 ∷ []) []
+
+abbrev pub hint-16 : Rules
+hint-16 = rules (sa one-of only 16 ∷ []) []
+
+-- and rs and rd must not be equal: the jump could not be restarted
+abbrev pub hint-0-rs-not-rd : Rules
+hint-0-rs-not-rd = rules (sa one-of only 0 ∷ []) (fails rs-is-rd ∷ [])
+
+abbrev pub hint-16-rs-not-rd : Rules
+hint-16-rs-not-rd = rules (sa one-of only 16 ∷ []) (fails rs-is-rd ∷ [])
 
 -- the number in rd must be placed in rt too
 abbrev pub rt-same-as-rd : Rules
@@ -216,9 +226,20 @@ ends-inside = rules [] (holds inside ∷ [])
 abbrev pub size-positive : Rules
 size-positive = rules [] (holds ordered ∷ [])
 
--- fs is one of the control registers: FIR, FCCR, FEXR, FENR, FCSR
-abbrev pub control-register : Rules
-control-register = rules (rd one-of (0 ∷ 25 ∷ 26 ∷ 28 ∷ 31 ∷ []) ∷ []) []
+-- fs is a control register that can be read: FIR, FCCR, FEXR, FENR, FCSR
+abbrev pub readable-control : Rules
+readable-control = rules (rd one-of (0 ∷ 25 ∷ 26 ∷ 28 ∷ 31 ∷ []) ∷ []) []
+
+-- or written: FIR cannot be
+abbrev pub writable-control : Rules
+writable-control = rules (rd one-of (25 ∷ 26 ∷ 28 ∷ 31 ∷ []) ∷ []) []
+
+-- in the paired-single format cc is even: two conditions are tested or set. Its column has two bits more below it
+abbrev pub even-cc-in-rt : Rules
+even-cc-in-rt = rules (rt one-of (0 ∷ 1 ∷ 8 ∷ 9 ∷ 16 ∷ 17 ∷ 24 ∷ 25 ∷ []) ∷ []) []
+
+abbrev pub even-cc-in-sa : Rules
+even-cc-in-sa = rules (sa one-of (0 ∷ 8 ∷ 16 ∷ 24 ∷ []) ∷ []) []
 
 -- rd is one of the hardware registers: CPUNum, SYNCI_Step, CC, CCRes, and from 29 on those of the system and the implementation
 abbrev pub hardware-register : Rules

@@ -6,3 +6,4 @@ pub mod Exceptions
 pub mod Agreement
 pub mod Tight
 pub mod Reasons
+pub mod Patching

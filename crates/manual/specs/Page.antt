@@ -48,8 +48,8 @@ pub data Arg : Type 0 where
   gpr fpr : Name → Arg  -- a general register, a floating-point register
   fcr hwr cp0 cp2 : Name → Arg  -- a floating-point control register, a hardware register, a register of coprocessor 0 or 2
   unsigned signed16 : Name → Arg  -- a number, zero-extended or sign-extended
-  plus : ℕ → Name → Arg  -- the field and so much more
-  span : ℕ → Name → Name → Arg  -- the size of a bit field, from its last bit, to which so much is added, and its first
+  plus : ℕ → Name → Arg  -- the field and this much more
+  span : ℕ → Name → Name → Arg  -- the size of a bit field, from its last bit and this much more, and its first
   offset-base : Arg  -- offset(base)
   index-base : Arg  -- index(base)
   pc-relative : Arg  -- offset, of a branch
@@ -145,6 +145,11 @@ value p f n = add fn (add sa (add rd (add rt (add rs (add op 0)))))
 
 -- ── what a line says ──
 
+-- the bits of the PC: 64 in MIPS64, 32 in MIPS32. A target is what the PC holds of it
+abbrev pub pcBits : Bool → ℕ
+pcBits true = 64
+pcBits false = 32
+
 -- an operand as the manual means it
 pub data Meant : Type 0 where
   GPR FPR FCR HWR CP0 CP2 : ℕ → Meant
@@ -153,25 +158,29 @@ pub data Meant : Type 0 where
   indexed : ℕ → ℕ → Meant  -- the sum of two registers
   address : ℕ → Meant
 
-unfoldable pub meantBy : Arg → ℕ → (Name → ℕ) → Meant
-meantBy (gpr n) va v = GPR (v n)
-meantBy (fpr n) va v = FPR (v n)
-meantBy (fcr n) va v = FCR (v n)
-meantBy (hwr n) va v = HWR (v n)
-meantBy (cp0 n) va v = CP0 (v n)
-meantBy (cp2 n) va v = CP2 (v n)
-meantBy (unsigned n) va v = number (pos (v n))
-meantBy (signed16 n) va v = number (signed 16 (v n))
-meantBy (plus k n) va v = number (pos (v n + k))
-meantBy (span k m l) va v = number (sizeOf (v m + k) (v l))
-meantBy offset-base va v = memory (signed 16 (v Offset)) (v Base)
-meantBy index-base va v = indexed (v Index) (v Base)
-meantBy pc-relative va v = address (branchTo va (v Offset))
-meantBy in-region va v = address (jumpTo va (v InstrIndex))
+-- by the manual of a width, for a word at an address
+unfoldable pub meantBy : Arg → Bool → ℕ → (Name → ℕ) → Meant
+meantBy (gpr n) wide va v = GPR (v n)
+meantBy (fpr n) wide va v = FPR (v n)
+meantBy (fcr n) wide va v = FCR (v n)
+meantBy (hwr n) wide va v = HWR (v n)
+meantBy (cp0 n) wide va v = CP0 (v n)
+meantBy (cp2 n) wide va v = CP2 (v n)
+meantBy (unsigned n) wide va v = number (pos (v n))
+meantBy (signed16 n) wide va v = number (signed 16 (v n))
+meantBy (plus k n) wide va v = number (pos (v n + k))
+meantBy (span k m l) wide va v = number (sizeOf (v m + k) (v l))
+meantBy offset-base wide va v = memory (signed 16 (v Offset)) (v Base)
+meantBy index-base wide va v = indexed (v Index) (v Base)
+meantBy pc-relative wide va v = address (branchTo va (v Offset) % 2 ^ pcBits wide)
+meantBy in-region wide va v = address (jumpTo va (v InstrIndex) % 2 ^ pcBits wide)
 
--- the operands of a word at an address, in the order of the Format line
-unfoldable pub meant : Line → ℕ → Fields → List Meant
-meant ℓ va f = map (λ a. meantBy a va (value (ℓ .page) f)) (ℓ .args)
+abbrev pub meantIn : Page → List Arg → Bool → ℕ → Fields → List Meant
+meantIn p xs wide va f = map (λ a. meantBy a wide va (value p f)) xs
+
+-- the operands of a word, in the order of the Format line
+unfoldable pub meant : Line → Bool → ℕ → Fields → List Meant
+meant ℓ wide va f = meantIn (ℓ .page) (ℓ .args) wide va f
 
 -- ── what a line leaves out ──
 
@@ -195,13 +204,18 @@ unfoldable pub named : List Arg → Name → Bool
 named [] n = false
 named (a ∷ xs) n = names a n || named xs n
 
--- the numbers are one, but for so many low bits
+-- the operands that do not name a field
+unfoldable pub without : Name → List Arg → List Arg
+without n [] = []
+without n (a ∷ xs) = cond (names a n) (without n xs) (a ∷ without n xs)
+
+-- the numbers are equal, but for this many low bits
 unfoldable pub oneAbove : ℕ → List ℕ → Bool
 oneAbove k [] = true
 oneAbove k (v ∷ []) = true
 oneAbove k (v ∷ u ∷ vs) = eqb (v / 2 ^ k) (u / 2 ^ k) && oneAbove k (u ∷ vs)
 
--- the line is only for words with one value in the column, but for so many low bits
+-- the tests leave one value in the column, but for this many low bits
 unfoldable pub implied : List Test → ℕ → Field → Bool
 implied [] k x = false
 implied (y one-of vs ∷ ts) k x = (sameField y x && oneAbove k vs) || implied ts k x
@@ -216,12 +230,16 @@ tied (holds inside ∷ cs) x = tied cs x
 tied (holds ordered ∷ cs) x = tied cs x
 tied (fails ρ ∷ cs) x = tied cs x
 
--- an operand names what the column holds, or the line or the Restrictions leave it one value
+-- the line or the Restrictions leave one value in the column, but for this many low bits
+unfoldable pub settled : Line → ℕ → Field → Bool
+settled ℓ k x = implied (ℓ .when) k x || implied (ℓ .page .limit .tests) k x
+
+-- an operand names what the column holds, or it has one value
 unfoldable pub told : Line → Column → Field → Bool
 told ℓ (is v) x = true
-told ℓ (box n) x = named (ℓ .args) n || (implied (ℓ .when) 0 x || tied (ℓ .page .limit .claims) x)
-told ℓ (over n k v) x = named (ℓ .args) n || implied (ℓ .when) k x
-told ℓ (under v k n) x = named (ℓ .args) n || implied (ℓ .when) 0 x
+told ℓ (box n) x = named (ℓ .args) n || (settled ℓ 0 x || tied (ℓ .page .limit .claims) x)
+told ℓ (over n k v) x = named (ℓ .args) n || settled ℓ k x
+told ℓ (under v k n) x = named (ℓ .args) n || settled ℓ 0 x
 
 -- do its operands tell all that the page's fields hold?
 unfoldable pub whole : Line → Bool

@@ -14,8 +14,10 @@ use Rattle.manual.specs.Formats.{offset-of-base, rt-offset-base, ft-offs
 use Rattle.manual.specs.Formats.{rt-fs, rt-control, rt-hardware, fd-fs, fd-fs-ft, fd-fs-cc, fd-fs-rt, fd-fr-fs-ft, fd-fs-ft-rs, fd-index-base}
 use Rattle.manual.specs.Formats.{fs-index-base, hint-index-base, rt-impl, cofun-alone, code-alone, ext-pos-size, dextm-pos-size, dextu-pos-size}
 use Rattle.manual.specs.Formats.{ins-pos-size, dinsm-pos-size, dinsu-pos-size, cc-offset, cc-fs-ft, rt-rd-sel, stype-alone, link-rs}
-use Rattle.manual.specs.Formats.{code20, code19, rs-rt-code10, always, rs-not-31, rs-not-rd, rt-same-as-rd, ends-inside, size-positive}
-use Rattle.manual.specs.Formats.{control-register, hardware-register}
+use Rattle.manual.specs.Formats.{code20, code19, rs-rt-code10, always, rs-not-31, hint-0, hint-16}
+use Rattle.manual.specs.Formats.{hint-0-rs-not-rd, hint-16-rs-not-rd, rt-same-as-rd, ends-inside}
+use Rattle.manual.specs.Formats.{size-positive, readable-control, writable-control, even-cc-in-rt}
+use Rattle.manual.specs.Formats.{even-cc-in-sa, hardware-register}
 
 -- ── columns ──
 
@@ -93,6 +95,10 @@ lsb = box Lsb
 abbrev pub cc : ℕ → Column
 cc v = over Cc 2 v
 
+-- the bit of the hazard barrier, and below it the rest of the hint
+abbrev pub hb : Column
+hb = under 1 4 Hint
+
 -- three zeros and sel
 abbrev pub sel : Column
 sel = under 0 3 Sel
@@ -128,10 +134,10 @@ pages =
     page "srlv" MIPS32 (is 0) rs rt rd zeros (is 6) rd-rt-rs always ∷
     page "rotrv" MIPS32 (is 0) rs rt rd (is 1) (is 6) rd-rt-rs always ∷
     page "srav" MIPS32 (is 0) rs rt rd zeros (is 7) rd-rt-rs always ∷
-    page "jr" MIPS32 (is 0) rs zeros zeros zeros (is 8) one-rs always ∷
-    page "jr.hb" MIPS32 (is 0) rs zeros zeros (is 16) (is 8) one-rs always ∷
-    page "jalr" MIPS32 (is 0) rs zeros rd zeros (is 9) link-rs rs-not-rd ∷
-    page "jalr.hb" MIPS32 (is 0) rs zeros rd (is 16) (is 9) link-rs rs-not-rd ∷
+    page "jr.hb" MIPS32 (is 0) rs zeros zeros hb (is 8) one-rs hint-16 ∷
+    page "jr" MIPS32 (is 0) rs zeros zeros hint (is 8) one-rs hint-0 ∷
+    page "jalr.hb" MIPS32 (is 0) rs zeros rd hb (is 9) link-rs hint-16-rs-not-rd ∷
+    page "jalr" MIPS32 (is 0) rs zeros rd hint (is 9) link-rs hint-0-rs-not-rd ∷
     page "movz" MIPS32 (is 0) rs rt rd zeros (is 10) rd-rs-rt always ∷
     page "movn" MIPS32 (is 0) rs rt rd zeros (is 11) rd-rs-rt always ∷
     page "syscall" MIPS32 (is 0) code code code code (is 12) code20 always ∷
@@ -231,11 +237,11 @@ pages =
     -- COP1 (op 17), by fmt, the rs column: moves and branches
     page "mfc1" MIPS32 (is 17) zeros rt fs zeros (is 0) rt-fs always ∷
     page "dmfc1" MIPS64 (is 17) (is 1) rt fs zeros (is 0) rt-fs always ∷
-    page "cfc1" MIPS32 (is 17) (is 2) rt fs zeros (is 0) rt-control control-register ∷
+    page "cfc1" MIPS32 (is 17) (is 2) rt fs zeros (is 0) rt-control readable-control ∷
     page "mfhc1" MIPS32 (is 17) (is 3) rt fs zeros (is 0) rt-fs always ∷
     page "mtc1" MIPS32 (is 17) (is 4) rt fs zeros (is 0) rt-fs always ∷
     page "dmtc1" MIPS64 (is 17) (is 5) rt fs zeros (is 0) rt-fs always ∷
-    page "ctc1" MIPS32 (is 17) (is 6) rt fs zeros (is 0) rt-control control-register ∷
+    page "ctc1" MIPS32 (is 17) (is 6) rt fs zeros (is 0) rt-control writable-control ∷
     page "mthc1" MIPS32 (is 17) (is 7) rt fs zeros (is 0) rt-fs always ∷
     page "bc1f" MIPS32 (is 17) (is 8) (cc 0) offset offset offset cc-offset always ∷
     page "bc1t" MIPS32 (is 17) (is 8) (cc 1) offset offset offset cc-offset always ∷
@@ -339,8 +345,8 @@ pages =
     page "abs.ps" MIPS32 (is 17) (is 22) zeros fs fd (is 5) fd-fs always ∷
     page "mov.ps" MIPS32 (is 17) (is 22) zeros fs fd (is 6) fd-fs always ∷
     page "neg.ps" MIPS32 (is 17) (is 22) zeros fs fd (is 7) fd-fs always ∷
-    page "movf.ps" MIPS32 (is 17) (is 22) (cc 0) fs fd (is 17) fd-fs-cc always ∷
-    page "movt.ps" MIPS32 (is 17) (is 22) (cc 1) fs fd (is 17) fd-fs-cc always ∷
+    page "movf.ps" MIPS32 (is 17) (is 22) (cc 0) fs fd (is 17) fd-fs-cc even-cc-in-rt ∷
+    page "movt.ps" MIPS32 (is 17) (is 22) (cc 1) fs fd (is 17) fd-fs-cc even-cc-in-rt ∷
     page "movz.ps" MIPS32 (is 17) (is 22) rt fs fd (is 18) fd-fs-rt always ∷
     page "movn.ps" MIPS32 (is 17) (is 22) rt fs fd (is 19) fd-fs-rt always ∷
     page "cvt.s.pu" MIPS32 (is 17) (is 22) zeros fs fd (is 32) fd-fs always ∷
@@ -349,22 +355,22 @@ pages =
     page "plu.ps" MIPS32 (is 17) (is 22) ft fs fd (is 45) fd-fs-ft always ∷
     page "pul.ps" MIPS32 (is 17) (is 22) ft fs fd (is 46) fd-fs-ft always ∷
     page "puu.ps" MIPS32 (is 17) (is 22) ft fs fd (is 47) fd-fs-ft always ∷
-    page "c.f.ps" MIPS32 (is 17) (is 22) ft fs (cc 0) (is 48) cc-fs-ft always ∷
-    page "c.un.ps" MIPS32 (is 17) (is 22) ft fs (cc 0) (is 49) cc-fs-ft always ∷
-    page "c.eq.ps" MIPS32 (is 17) (is 22) ft fs (cc 0) (is 50) cc-fs-ft always ∷
-    page "c.ueq.ps" MIPS32 (is 17) (is 22) ft fs (cc 0) (is 51) cc-fs-ft always ∷
-    page "c.olt.ps" MIPS32 (is 17) (is 22) ft fs (cc 0) (is 52) cc-fs-ft always ∷
-    page "c.ult.ps" MIPS32 (is 17) (is 22) ft fs (cc 0) (is 53) cc-fs-ft always ∷
-    page "c.ole.ps" MIPS32 (is 17) (is 22) ft fs (cc 0) (is 54) cc-fs-ft always ∷
-    page "c.ule.ps" MIPS32 (is 17) (is 22) ft fs (cc 0) (is 55) cc-fs-ft always ∷
-    page "c.sf.ps" MIPS32 (is 17) (is 22) ft fs (cc 0) (is 56) cc-fs-ft always ∷
-    page "c.ngle.ps" MIPS32 (is 17) (is 22) ft fs (cc 0) (is 57) cc-fs-ft always ∷
-    page "c.seq.ps" MIPS32 (is 17) (is 22) ft fs (cc 0) (is 58) cc-fs-ft always ∷
-    page "c.ngl.ps" MIPS32 (is 17) (is 22) ft fs (cc 0) (is 59) cc-fs-ft always ∷
-    page "c.lt.ps" MIPS32 (is 17) (is 22) ft fs (cc 0) (is 60) cc-fs-ft always ∷
-    page "c.nge.ps" MIPS32 (is 17) (is 22) ft fs (cc 0) (is 61) cc-fs-ft always ∷
-    page "c.le.ps" MIPS32 (is 17) (is 22) ft fs (cc 0) (is 62) cc-fs-ft always ∷
-    page "c.ngt.ps" MIPS32 (is 17) (is 22) ft fs (cc 0) (is 63) cc-fs-ft always ∷
+    page "c.f.ps" MIPS32 (is 17) (is 22) ft fs (cc 0) (is 48) cc-fs-ft even-cc-in-sa ∷
+    page "c.un.ps" MIPS32 (is 17) (is 22) ft fs (cc 0) (is 49) cc-fs-ft even-cc-in-sa ∷
+    page "c.eq.ps" MIPS32 (is 17) (is 22) ft fs (cc 0) (is 50) cc-fs-ft even-cc-in-sa ∷
+    page "c.ueq.ps" MIPS32 (is 17) (is 22) ft fs (cc 0) (is 51) cc-fs-ft even-cc-in-sa ∷
+    page "c.olt.ps" MIPS32 (is 17) (is 22) ft fs (cc 0) (is 52) cc-fs-ft even-cc-in-sa ∷
+    page "c.ult.ps" MIPS32 (is 17) (is 22) ft fs (cc 0) (is 53) cc-fs-ft even-cc-in-sa ∷
+    page "c.ole.ps" MIPS32 (is 17) (is 22) ft fs (cc 0) (is 54) cc-fs-ft even-cc-in-sa ∷
+    page "c.ule.ps" MIPS32 (is 17) (is 22) ft fs (cc 0) (is 55) cc-fs-ft even-cc-in-sa ∷
+    page "c.sf.ps" MIPS32 (is 17) (is 22) ft fs (cc 0) (is 56) cc-fs-ft even-cc-in-sa ∷
+    page "c.ngle.ps" MIPS32 (is 17) (is 22) ft fs (cc 0) (is 57) cc-fs-ft even-cc-in-sa ∷
+    page "c.seq.ps" MIPS32 (is 17) (is 22) ft fs (cc 0) (is 58) cc-fs-ft even-cc-in-sa ∷
+    page "c.ngl.ps" MIPS32 (is 17) (is 22) ft fs (cc 0) (is 59) cc-fs-ft even-cc-in-sa ∷
+    page "c.lt.ps" MIPS32 (is 17) (is 22) ft fs (cc 0) (is 60) cc-fs-ft even-cc-in-sa ∷
+    page "c.nge.ps" MIPS32 (is 17) (is 22) ft fs (cc 0) (is 61) cc-fs-ft even-cc-in-sa ∷
+    page "c.le.ps" MIPS32 (is 17) (is 22) ft fs (cc 0) (is 62) cc-fs-ft even-cc-in-sa ∷
+    page "c.ngt.ps" MIPS32 (is 17) (is 22) ft fs (cc 0) (is 63) cc-fs-ft even-cc-in-sa ∷
     -- COP2 (op 18), by rs
     page "mfc2" MIPS32 (is 18) zeros rt impl impl impl rt-impl always ∷
     page "dmfc2" MIPS64 (is 18) (is 1) rt impl impl impl rt-impl always ∷

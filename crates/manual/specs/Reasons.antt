@@ -1,19 +1,22 @@
--- Why a class does not read a field, as the table of classes says it, held against the pages: `zeros` where the page has zeros, `extra`
--- where it has a field. The proof stands in proofs/Reasons.antt.
+-- Why a class does not read a field, as the table of classes says it, compared with the pages: `zeros` where the page
+-- has zeros, `extra` where it has a field. The proof is in proofs/Reasons.antt.
 -- Assumes nothing.
+use Prim.Native.Nat.{ℕ}
 use Prim.Native.String.{String}
-use mathlib.Core.Bool.{Bool, true, false, _&&_}
-use mathlib.Core.List.{List, [], _∷_}
+use mathlib.Core.Bool.{Bool, true, false, not, _&&_, _||_, Bool·beq}
+use mathlib.Core.List.{List, [], _∷_, _++_}
 use lib.Dec.{T, eqb}
 use lib.Text.{eqt}
 use Rattle.reading.specs.Names.{nameOf}
 use Rattle.classes.specs.Row.{Why, fixed, dropped, Pat, is, read, readBut, skip, skipBut, low, Row, patOf}
 use Rattle.classes.specs.Meaning.{six}
 use Rattle.classes.specs.Table.{table}
+use Rattle.classes.specs.Refusals.{elem}
 use Rattle.manual.specs.Page as page
 use Rattle.manual.specs.Page.{Column, columnOf, Line}
 use Rattle.manual.specs.Pages.{pages}
 use Rattle.manual.specs.Aliases.{linesOf}
+use Rattle.manual.specs.Exceptions.{reservedThree, reservedTwo, reservedCompares}
 
 unfoldable pub stated : Why → Column → Bool
 stated fixed (page.is v) = eqb v 0
@@ -43,5 +46,24 @@ unfoldable pub allReasons : List Line → List Row → Bool
 allReasons ls [] = true
 allReasons ls (r ∷ ts) = reasons (nameOf (r .kind)) ls r && allReasons ls ts
 
-abbrev pub Reasons : Type 0
-Reasons = (wide : Bool) → T (allReasons (linesOf pages) (table wide))
+-- ── the classes of which this says nothing ──
+
+-- does a line have the mnemonic?
+unfoldable pub lined : String → List Line → Bool
+lined m [] = false
+lined m (ℓ ∷ ls) = eqt m (ℓ .name) || lined m ls
+
+-- those whose mnemonic has no line: it is in a format that the manual reserves (D65)
+abbrev pub reservedFormats : List ℕ
+reservedFormats = reservedThree ++ reservedTwo ++ reservedCompares
+
+unfoldable pub onlyReserved : List Line → List Row → Bool
+onlyReserved ls [] = true
+onlyReserved ls (r ∷ ts) =
+    Bool·beq (lined (nameOf (r .kind)) ls) (not (elem (r .kind) reservedFormats)) && onlyReserved ls ts
+
+-- ── what is proved ──
+
+pub record Reasons : Type 0 where
+  pub columns : (wide : Bool) → T (allReasons (linesOf pages) (table wide))
+  pub silent : (wide : Bool) → T (onlyReserved (linesOf pages) (table wide))
