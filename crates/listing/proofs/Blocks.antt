@@ -6,12 +6,12 @@ use mathlib.Core.Bool.{Bool, true, false, cond}
 use mathlib.Core.List.{List}
 use native.Mathlib.Nat.{add-zero, zero-add}
 use native.Mathlib.Omega.{arith}
-use borrow.Author.Tests.{eq-eqb, ne-eqb}
+use borrow.Author.Tests.{lt-ltb, eq-eqb, ne-eqb}
 use lib.Dec.{eqb}
 use Rattle.listing.specs.declared.View.{View}
 use Rattle.listing.specs.declared.Ended.{Ended}
 use Rattle.listing.specs.Body.{wordsIn, decodedAt, isRefused}
-use Rattle.listing.specs.Block.{block, withOneMore, slotEnd, blockFrom}
+use Rattle.listing.specs.Block.{block, withOneMore, slotEnd, blockFrom, blockOf}
 use Rattle.listing.specs.Private.Steps.{turnOf}
 
 -- ── the cases of one word ──
@@ -100,51 +100,54 @@ abbrev pub after : ℕ → Ended → Ended
 after j b = block (b .number) (b .kind) (j + b .words)
 
 -- the block from word n on, and what is left of it at word k
-pub record Left (v : View) (body : List ℕ) (n k kind : ℕ) : Type 0 where
+pub record Left (v : View) (body : List ℕ) (n k : ℕ) : Type 0 where
   pub low : n ≤ k
   pub high : k ≤ wordsIn body
-  pub four : kind ≡ 4
-  pub rest : blockFrom v body (wordsIn body - n) n ≡ after (k - n) (blockFrom v body (wordsIn body - k) k)
+  pub rest : blockOf v body n ≡ after (k - n) (blockFrom v body (wordsIn body - k) k)
 
-module _ (v : View) (body : List ℕ) (n : ℕ) where
-  pub start : n ≤ wordsIn body → Left v body n n 4
-  start h =
-      let e : n - n ≡ 0 = omega arith in
-      record { low = omega arith; high = h; four = refl; rest = rw e (simp zero-add) }
+pub start : (v : View) (body : List ℕ) (n : ℕ) → n < wordsIn body → Left v body n n
+unfolding blockOf
+start v body n h =
+    let e : n - n ≡ 0 = omega arith in
+    record { low = omega arith; high = omega arith; rest = rw (lt-ltb n (wordsIn body) h, e) (simp zero-add) }
 
-  module _ (k kind : ℕ) (l : Left v body n k kind) where
-    pub ran-out : wordsIn body ≤ k → block 0 kind (k - n) ≡ blockFrom v body (wordsIn body - n) n
-    unfolding blockFrom
-    ran-out h =
-        let e : wordsIn body - k ≡ 0 = omega arith in
-        sym (l .rest ∙ rw (e, l .four) (simp add-zero))
+module _ {v : View} {body : List ℕ} {n k : ℕ} (l : Left v body n k) where
+  pub ran-out : wordsIn body ≤ k → block 0 4 (k - n) ≡ blockOf v body n
+  unfolding blockFrom
+  ran-out h =
+      let e : wordsIn body - k ≡ 0 = omega arith in
+      sym (l .rest ∙ rw e (simp add-zero))
 
-    module _ (h : k < wordsIn body) (t : Ended) (e : t ≡ turnOf v body (wordsIn body - (k + 1)) k) where
-      left-is : wordsIn body - k ≡ suc (wordsIn body - (k + 1))
-      left-is = omega arith
+  module _ (h : k < wordsIn body) {t : Ended} (e : t ≡ turnOf v body (wordsIn body - (k + 1)) k) where
+    left-is : wordsIn body - k ≡ suc (wordsIn body - (k + 1))
+    left-is = omega arith
 
-      pub inside : k + t .words ≤ wordsIn body
-      inside = rw e (omega (arith, turn-within v body (wordsIn body - (k + 1)) k .words))
+    pub inside : k + t .words ≤ wordsIn body
+    inside = rw e (omega (arith, turn-within v body (wordsIn body - (k + 1)) k .words))
 
-      pub one-word-more : t .kind ≡ 0 → t .words ≡ 1
-      one-word-more = rw e (one-word v body (wordsIn body - (k + 1)) k)
+    pub one-word-more : t .kind ≡ 0 → t .words ≡ 1
+    one-word-more = rw e (one-word v body (wordsIn body - (k + 1)) k)
 
-      pub stopped : (t .kind ≡ 0 → ⊥) → block 0 (t .kind) (k + t .words - n) ≡ blockFrom v body (wordsIn body - n) n
-      stopped z =
-          let w : k + t .words - n ≡ k - n + t .words = omega (arith, l .low) in
-          let o : t .number ≡ 0 = rw e (turn-within v body (wordsIn body - (k + 1)) k .zero) in
-          let b : blockFrom v body (wordsIn body - k) k ≡ t = rw left-is (ends-here v body (wordsIn body - (k + 1)) k (rw e at z) ∙ sym e) in
-          rw (w, ← o) (sym (l .rest ∙ ap (after (k - n)) b))
+    the-last : (t .kind ≡ 0 → ⊥) → blockFrom v body (wordsIn body - k) k ≡ t
+    the-last z = rw left-is (ends-here v body (wordsIn body - (k + 1)) k (rw e at z) ∙ sym e)
 
-      pub went : t .kind ≡ 0 → Left v body n (k + t .words) kind
-      went z =
-          let b : Ended = blockFrom v body (wordsIn body - (k + 1)) (k + 1) in
-          let w : k - n + (b .words + 1) ≡ k + 1 - n + b .words = omega (arith, l .low) in
-          let g : blockFrom v body (wordsIn body - k) k ≡ withOneMore b = rw left-is (goes-on v body (wordsIn body - (k + 1)) k (rw e at z)) in
-          rw (one-word-more z)
-          (record {
-            low = omega (arith, l .low);
-            high = omega arith;
-            four = l .four;
-            rest = l .rest ∙ ap (after (k - n)) g ∙ ap (block (b .number) (b .kind)) w;
-          })
+    one-of-more : t .kind ≡ 0 →
+        blockFrom v body (wordsIn body - k) k ≡ withOneMore (blockFrom v body (wordsIn body - (k + 1)) (k + 1))
+    one-of-more z = rw left-is (goes-on v body (wordsIn body - (k + 1)) k (rw e at z))
+
+    pub stopped : (t .kind ≡ 0 → ⊥) → block 0 (t .kind) (k + t .words - n) ≡ blockOf v body n
+    stopped z =
+        let w : k + t .words - n ≡ k - n + t .words = omega (arith, l .low) in
+        let o : t .number ≡ 0 = rw e (turn-within v body (wordsIn body - (k + 1)) k .zero) in
+        rw (w, ← o) (sym (l .rest ∙ ap (after (k - n)) (the-last z)))
+
+    pub went : t .kind ≡ 0 → Left v body n (k + t .words)
+    went z =
+        let b : Ended = blockFrom v body (wordsIn body - (k + 1)) (k + 1) in
+        let w : k - n + (b .words + 1) ≡ k + 1 - n + b .words = omega (arith, l .low) in
+        rw (one-word-more z)
+        (record {
+          low = omega (arith, l .low);
+          high = omega arith;
+          rest = l .rest ∙ ap (after (k - n)) (one-of-more z) ∙ ap (block (b .number) (b .kind)) w;
+        })

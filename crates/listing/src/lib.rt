@@ -138,16 +138,16 @@ pub fn block(body: &[u8], v: View, n: usize) -> Ended
         return block_of(NO_INDEX, 0, 0);
     }
     let mut k = n;
-    let mut kind = BODY_ENDED;
-    while k < words {
+    loop {
+        if words <= k {
+            break block_of(0, BODY_ENDED, k - n);
+        }
         let t = turn(body, v, k);
         k += t.words;
         if t.kind != GOES_ON {
-            kind = t.kind;
-            break;
+            break block_of(0, t.kind, k - n);
         }
     }
-    block_of(0, kind, k - n)
 }
 
 // ── pages ──
