@@ -1,20 +1,79 @@
--- The four formats of COP1: each has the same classes, with mnemonics so far on.
+-- The four formats of COP1: each has the same arms, with mnemonics so far on.
 -- Assumes nothing.
-use Prim.Native.Nat.{ℕ, _+_}
+use Prim.Native.Nat.{ℕ, _+_, _≤_}
 use mathlib.Core.Path.{_≡_, refl, sym, _∙_, ap}
-use mathlib.Core.Bool.{Bool}
-use mathlib.Core.List.{List, [], _∷_}
+use mathlib.Core.Bool.{Bool, true}
+use mathlib.Core.List.{List, [], _∷_, map, reverse}
+use mathlib.Core.Logic.{_⊎_, inl, inr}
 use mathlib.Core.Option.{Option, none, some, Option·none-ne-some, Option·some-injective}
+use lib.Dec.{leb}
+use borrow.Author.Tests.{leb-true}
 use Rattle.word.specs.Word.{fieldsOf, op, rs, fn}
 use Rattle.reading.specs.declared.Decoded.{Decoded}
+use Rattle.reading.specs.Kind as kind
 use Rattle.reading.specs.Reading.{refusedOf}
 use Rattle.classes.specs.Row.{Form, Control, plain, Change, nothing, Row}
+use Rattle.classes.specs.Table.{fd-fs-ft, fd-fs, fs-ft}
 use Rattle.classes.specs.Meaning.{outs, reading, meaning}
 use Rattle.classes.specs.Decoded.{acceptedAs, decodedOf}
+use Rattle.decode.specs.declared.class.FloatOps.{FloatOps}
+use Rattle.decode.specs.declared.class.FloatOps.the-variants.{FdFsFt, FdFs, FsFt}
+use Rattle.decode.specs.declared.class.FloatPair.{FloatPair}
 use Rattle.decode.specs.Private.Answer.{columns}
 use Rattle.decode.specs.Private.Groups.{NoneOf, Behind, single, double, word, long, Format}
 use Rattle.decode.proofs.Facts.{Fact, _≐_, _noneOf_, Known}
 use Rattle.decode.proofs.Arms.{rowBy, numberBy, accepts, refuses}
+
+-- ── the arms ──
+
+-- a funct, and the base and operands that it picks
+abbrev Arm : Type 0
+Arm = ℕ × FloatPair
+
+abbrev arm : ℕ → ℕ → FloatOps → Arm
+arm k base ops = (k, record { 0 = base; 1 = ops })
+
+abbrev pub arms : List Arm
+arms =
+    arm 0 kind.add-s FdFsFt ∷
+    arm 1 kind.sub-s FdFsFt ∷
+    arm 2 kind.mul-s FdFsFt ∷
+    arm 3 kind.div-s FdFsFt ∷
+    arm 4 kind.sqrt-s FdFs ∷
+    arm 5 kind.abs-s FdFs ∷
+    arm 6 kind.mov-s FdFs ∷
+    arm 7 kind.neg-s FdFs ∷
+    arm 13 kind.trunc-w-s FdFs ∷
+    arm 32 kind.cvt-s-s FdFs ∷
+    arm 33 kind.cvt-d-s FdFs ∷
+    arm 36 kind.cvt-w-s FdFs ∷
+    arm 37 kind.cvt-l-s FdFs ∷
+    arm 50 kind.c-eq-s FsFt ∷
+    arm 60 kind.c-lt-s FsFt ∷
+    arm 62 kind.c-le-s FsFt ∷
+    []
+
+-- their functs, the last first, as the arm `_` knows them
+abbrev pub functs : List ℕ
+functs = reverse (map (λ (a : Arm). a .0) arms)
+
+-- one of the arms picked the pair
+abbrev pub Picked : List Arm → ℕ → FloatPair → Type 0
+Picked [] k p = ⊥
+Picked (a ∷ more) k p = ((k ≡ a .0) × (p ≡ a .1)) ⊎ Picked more k p
+
+-- what is the same at each of them is the same at that one
+same-at : {A : Type 0} (f g : Arm → A) (l : List Arm) (k : ℕ) (p : FloatPair) → map f l ≡ map g l → Picked l k p →
+    f (k, p) ≡ g (k, p)
+same-at f g [] k p e h = absurd h
+same-at f g (a ∷ more) k p e (inl h) = rw (h .0, h .1) (cc)
+same-at f g (a ∷ more) k p e (inr h) = same-at f g more k p (cc) h
+
+-- the last format, 48 on, is in reach of a byte
+pub low : (k : ℕ) (p : FloatPair) → Picked arms k p → p .0 ≤ 207
+low k p h = leb-true (p .0) 207 (same-at (λ (a : Arm). leb (a .1 .0) 207) (λ (a : Arm). true) arms k p refl h)
+
+-- ── in a format ──
 
 abbrev Columns : Type 0
 Columns = ℕ × (Form × (Control × Change))
@@ -26,19 +85,34 @@ abbrev shown : Option Row → Option Columns
 shown none = none
 shown (some r) = some (columnsOf r)
 
--- what the table has for a funct in a format
-abbrev pub inFormat : ℕ → ℕ → Bool → Option Columns
-inFormat k s wide = shown (rowBy (op ≐ 17 ∷ rs ≐ s ∷ fn ≐ k ∷ []) wide)
+abbrev pub formOf : FloatOps → Form
+formOf FdFsFt = fd-fs-ft
+formOf FdFs = fd-fs
+formOf FsFt = fs-ft
 
--- these columns, with the mnemonic so far on
-abbrev Has : ℕ → ℕ → ℕ → Form → Bool → Type 0
-Has k s n φ wide = inFormat k s wide ≡ some (n, (φ, (plain, nothing)))
+-- what the table has for an arm, and what the arm answers
+abbrev has : ℕ → Bool → Arm → Option Columns
+has s wide a = shown (rowBy (op ≐ 17 ∷ rs ≐ s ∷ fn ≐ a .0 ∷ []) wide)
 
-pub record Four (k n : ℕ) (φ : Form) (wide : Bool) : Type 0 where
-  pub s : Has k 16 (n + 0) φ wide
-  pub d : Has k 17 (n + 16) φ wide
-  pub w : Has k 20 (n + 32) φ wide
-  pub l : Has k 21 (n + 48) φ wide
+abbrev answers : ℕ → Arm → Option Columns
+answers f a = some (a .1 .0 + f, (formOf (a .1 .1), (plain, nothing)))
+
+agree : (s f : ℕ) → Behind s f → (wide : Bool) → map (has s wide) arms ≡ map (answers f) arms
+unfolding rowBy
+agree s f (single i j) wide = rw (i, j)
+agree s f (double i j) wide = rw (i, j)
+agree s f (word i j) wide = rw (i, j)
+agree s f (long i j) wide = rw (i, j)
+
+-- and for what they leave
+refused : (s f : ℕ) → Behind s f → numberBy (op ≐ 17 ∷ rs ≐ s ∷ fn noneOf functs ∷ []) ≡ some 6
+unfolding numberBy
+refused s f (single i j) = rw i
+refused s f (double i j) = rw i
+refused s f (word i j) = rw i
+refused s f (long i j) = rw i
+
+-- ── THE LAWS ──
 
 -- the reading with these columns
 abbrev readingOf : ℕ → ℕ → Columns → Decoded
@@ -58,37 +132,22 @@ by-columns ks w va wide n φ h e = go (rowBy ks wide) refl e
         accepts ks w va wide h q
         (sym (meaning-is r w va ∙ ap (readingOf w va) (Option·some-injective (columnsOf r) (n, (φ, (plain, nothing))) s)))
 
--- THE LAW for an arm: by the format that the word has
-pub in-formats : (k n : ℕ) (φ : Form) (w va f : ℕ) (wide : Bool) → Format f w → fieldsOf w fn ≡ k → Four k n φ wide →
-    columns (n + f) φ plain nothing w va ≡ decodedOf w va wide
-in-formats k n φ w va f wide h e four = go (h .1)
-  where
-    at : (s o : ℕ) → fieldsOf w rs ≡ s → f ≡ o → Has k s (n + o) φ wide → columns (n + f) φ plain nothing w va ≡ decodedOf w va wide
-    at s o i j x =
-        ap (λ (b : ℕ). columns (n + b) φ plain nothing w va) j
-        ∙ by-columns (op ≐ 17 ∷ rs ≐ s ∷ fn ≐ k ∷ []) w va wide (n + o) φ (h .0, (i, (e, tt))) x
+module _ (f w va : ℕ) (wide : Bool) (h : Format f w) where
+  -- its fmt and its funct
+  abbrev s : ℕ
+  s = fieldsOf w rs
 
-    go : Behind (fieldsOf w rs) f → columns (n + f) φ plain nothing w va ≡ decodedOf w va wide
-    go (single i j) = at 16 0 i j (four .s)
-    go (double i j) = at 17 16 i j (four .d)
-    go (word i j) = at 20 32 i j (four .w)
-    go (long i j) = at 21 48 i j (four .l)
+  abbrev k : ℕ
+  k = fieldsOf w fn
 
--- and for what the arms leave
-pub record None (ks : List ℕ) : Type 0 where
-  pub s : numberBy (op ≐ 17 ∷ rs ≐ 16 ∷ fn noneOf ks ∷ []) ≡ some 6
-  pub d : numberBy (op ≐ 17 ∷ rs ≐ 17 ∷ fn noneOf ks ∷ []) ≡ some 6
-  pub w : numberBy (op ≐ 17 ∷ rs ≐ 20 ∷ fn noneOf ks ∷ []) ≡ some 6
-  pub l : numberBy (op ≐ 17 ∷ rs ≐ 21 ∷ fn noneOf ks ∷ []) ≡ some 6
+  -- for the arms: by the format that the word has
+  pub in-format : (p : FloatPair) → Picked arms (fieldsOf w fn) p →
+      columns (p .0 + f) (formOf (p .1)) plain nothing w va ≡ decodedOf w va wide
+  in-format p picked =
+      by-columns (op ≐ 17 ∷ rs ≐ s ∷ fn ≐ k ∷ []) w va wide (p .0 + f) (formOf (p .1)) (h .0, (refl, (refl, tt)))
+      (same-at (has s wide) (answers f) arms k p (agree s f (h .1) wide) picked)
 
-pub in-no-format : (ks : List ℕ) (w va f : ℕ) (wide : Bool) → Format f w → NoneOf (fieldsOf w fn) ks → None ks → refusedOf 6 ≡ decodedOf w va wide
-in-no-format ks w va f wide h e left = go (h .1)
-  where
-    at : (s : ℕ) → fieldsOf w rs ≡ s → numberBy (op ≐ 17 ∷ rs ≐ s ∷ fn noneOf ks ∷ []) ≡ some 6 → refusedOf 6 ≡ decodedOf w va wide
-    at s i x = refuses (op ≐ 17 ∷ rs ≐ s ∷ fn noneOf ks ∷ []) w va wide (h .0, (i, (e, tt))) x tt refl
-
-    go : Behind (fieldsOf w rs) f → refusedOf 6 ≡ decodedOf w va wide
-    go (single i j) = at 16 i (left .s)
-    go (double i j) = at 17 i (left .d)
-    go (word i j) = at 20 i (left .w)
-    go (long i j) = at 21 i (left .l)
+  -- and for what they leave
+  pub in-no-format : NoneOf (fieldsOf w fn) functs → refusedOf 6 ≡ decodedOf w va wide
+  in-no-format e =
+      refuses (op ≐ 17 ∷ rs ≐ s ∷ fn noneOf functs ∷ []) w va wide (h .0, (refl, (e, tt))) (refused s f (h .1)) tt refl

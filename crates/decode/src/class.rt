@@ -45,3 +45,13 @@ pub(crate) enum Class {
     FloatMem(u8, u8),
     HintMem(u8),
 }
+
+// The operands of an arithmetic word of COP1.
+pub(crate) enum FloatOps {
+    FdFsFt,
+    FdFs,
+    FsFt,
+}
+
+// The source's `(base, ops)`: the mnemonic in format s, and the operands.
+pub(crate) struct FloatPair(pub(crate) u8, pub(crate) FloatOps);

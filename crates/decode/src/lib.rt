@@ -14,6 +14,8 @@ mod class;
 mod forms;
 
 use class::Class;
+use class::FloatOps;
+use class::FloatPair;
 use reading::Decoded;
 use reading::Flow;
 use reading::kind;
@@ -474,30 +476,37 @@ fn bc1(w: u32) -> Class
     }
 }
 
-// The source's `(base, ops)` and `format!`: the base's mnemonic in format s, and so far on as the format's mnemonics stand behind it.
+// The source's `(base, ops)`, and its `format!`: the base's mnemonic, so far on as the format's mnemonics stand behind
+// those of format s.
 fn float(f: u8, w: u32) -> Class
     requires { ⌜ Format f w ⌝ }
     requires { ⌜ f ≤ 48 ⌝ }
     ensures { λ r. ⌜ Each r w ⌝ }
 {
     let funct = word::funct(w);
-    match funct {
-        0 => Class::FdFsFt(kind::ADD_S + f),
-        1 => Class::FdFsFt(kind::SUB_S + f),
-        2 => Class::FdFsFt(kind::MUL_S + f),
-        3 => Class::FdFsFt(kind::DIV_S + f),
-        4 => Class::FdFs(kind::SQRT_S + f),
-        5 => Class::FdFs(kind::ABS_S + f),
-        6 => Class::FdFs(kind::MOV_S + f),
-        7 => Class::FdFs(kind::NEG_S + f),
-        13 => Class::FdFs(kind::TRUNC_W_S + f),
-        32 => Class::FdFs(kind::CVT_S_S + f),
-        33 => Class::FdFs(kind::CVT_D_S + f),
-        36 => Class::FdFs(kind::CVT_W_S + f),
-        37 => Class::FdFs(kind::CVT_L_S + f),
-        50 => Class::FsFt(kind::C_EQ_S + f),
-        60 => Class::FsFt(kind::C_LT_S + f),
-        62 => Class::FsFt(kind::C_LE_S + f),
-        _ => Class::Refused(refusal::COP1),
+    let FloatPair(base, ops) = match funct {
+        0 => FloatPair(kind::ADD_S, FloatOps::FdFsFt),
+        1 => FloatPair(kind::SUB_S, FloatOps::FdFsFt),
+        2 => FloatPair(kind::MUL_S, FloatOps::FdFsFt),
+        3 => FloatPair(kind::DIV_S, FloatOps::FdFsFt),
+        4 => FloatPair(kind::SQRT_S, FloatOps::FdFs),
+        5 => FloatPair(kind::ABS_S, FloatOps::FdFs),
+        6 => FloatPair(kind::MOV_S, FloatOps::FdFs),
+        7 => FloatPair(kind::NEG_S, FloatOps::FdFs),
+        13 => FloatPair(kind::TRUNC_W_S, FloatOps::FdFs),
+        32 => FloatPair(kind::CVT_S_S, FloatOps::FdFs),
+        33 => FloatPair(kind::CVT_D_S, FloatOps::FdFs),
+        36 => FloatPair(kind::CVT_W_S, FloatOps::FdFs),
+        37 => FloatPair(kind::CVT_L_S, FloatOps::FdFs),
+        50 => FloatPair(kind::C_EQ_S, FloatOps::FsFt),
+        60 => FloatPair(kind::C_LT_S, FloatOps::FsFt),
+        62 => FloatPair(kind::C_LE_S, FloatOps::FsFt),
+        _ => return Class::Refused(refusal::COP1),
+    };
+    let mnemonic = base + f;
+    match ops {
+        FloatOps::FdFsFt => Class::FdFsFt(mnemonic),
+        FloatOps::FdFs => Class::FdFs(mnemonic),
+        FloatOps::FsFt => Class::FsFt(mnemonic),
     }
 }

@@ -1,71 +1,67 @@
-use Prim.Native.Nat.{ℕ}
-use mathlib.Core.Path.{refl, sym, _∙_, subst}
-use mathlib.Core.List.{List, [], _∷_}
+-- `decode::float` meets its contract.
+-- Assumes nothing.
+use Prim.Native.Nat.{ℕ, _+_}
+use mathlib.Core.Path.{_≡_, sym, _∙_, subst}
+use mathlib.Core.Bool.{Bool}
+use mathlib.Core.Logic.{inl, ⊎-map}
+use native.Mathlib.Omega.{arith}
 use borrow.Author.Needs.{needs}
-use Rattle.reading.specs.Kind as kind
-use Rattle.classes.specs.Table.{fd-fs-ft, fd-fs, fs-ft}
+use Rattle.word.specs.Word.{fieldsOf, fn}
+use Rattle.classes.specs.Row.{plain, nothing}
+use Rattle.classes.specs.Decoded.{decodedOf}
+use Rattle.decode.specs.declared.class.FloatOps.{FloatOps}
+use Rattle.decode.specs.Private.Answer.{columns}
 use Rattle.decode.specs.Private.Groups.{NoneOf}
-use Rattle.decode.proofs.Arms.{rowBy, numberBy}
-use Rattle.decode.proofs.Formats.{in-formats, in-no-format}
+use Rattle.decode.proofs.Formats.{arms, functs, Picked, low, formOf, in-format, in-no-format}
 use Rattle.decode.proofs.float.Statement.{statement}
 use Rattle.decode.proofs.float.Tie as tie
 
-abbrev keys : List ℕ
-keys = 62 ∷ 60 ∷ 50 ∷ 37 ∷ 36 ∷ 33 ∷ 32 ∷ 13 ∷ 7 ∷ 6 ∷ 5 ∷ 4 ∷ 3 ∷ 2 ∷ 1 ∷ 0 ∷ []
+-- what no arm has
+unpicked : (c : tie.At-match-rest) → NoneOf (fieldsOf (c .before .before .args .w) fn) functs
+unpicked c = subst (λ (k : ℕ). NoneOf k functs) (c .before .funct .ensures) (c .match .rest)
+
+-- where the arms meet
+picked : (c : tie.At-match-came) → Picked arms (c .before .funct .result) (c .match .base)
+picked c =
+    ⊎-map (λ w. (w .0 .keys1, w .1))
+    (⊎-map (λ w. (w .0 .keys2, w .1))
+    (⊎-map (λ w. (w .0 .keys3, w .1))
+    (⊎-map (λ w. (w .0 .keys4, w .1))
+    (⊎-map (λ w. (w .0 .keys5, w .1))
+    (⊎-map (λ w. (w .0 .keys6, w .1))
+    (⊎-map (λ w. (w .0 .keys7, w .1))
+    (⊎-map (λ w. (w .0 .keys8, w .1))
+    (⊎-map (λ w. (w .0 .keys9, w .1))
+    (⊎-map (λ w. (w .0 .keys10, w .1))
+    (⊎-map (λ w. (w .0 .keys11, w .1))
+    (⊎-map (λ w. (w .0 .keys12, w .1))
+    (⊎-map (λ w. (w .0 .keys13, w .1))
+    (⊎-map (λ w. (w .0 .keys14, w .1))
+    (⊎-map (λ w. (w .0 .keys15, w .1))
+    (λ w. inl (w .0 .keys16, w .1))))))))))))))))
+    (c .match .came)
+
+-- and the operands are known
+answer : (c : tie.At-match-came) (ops : FloatOps) → c .match .base .1 ≡ ops → (wide : Bool) (va : ℕ) →
+    columns (c .match .base .0 + c .before .before .args .f) (formOf ops) plain nothing (c .before .before .args .w) va
+    ≡ decodedOf (c .before .before .args .w) va wide
+answer c ops e wide va =
+    let a = c .before .before .args in
+    let k : Picked arms (fieldsOf (a .w) fn) (c .match .base) = rw (c .before .funct .ensures) at (picked c) in
+    rw e at (in-format (a .f) (a .w) va wide (c .before .before .pre .0) (c .match .base) k)
 
 pub float-spec : {M : Type 1} → statement M
-unfolding rowBy numberBy
 float-spec =
     tie.close
     (tie.spec
     (λ c κs. search needs)
+    (λ c wide va.
+    let s = c .before .before in
+    in-no-format (s .args .f) (s .args .w) va wide (s .pre .0) (unpicked c))
+    (λ c. omega (arith, low _ _ (picked c), c .before .before .pre .1))
     (λ c. search needs)
     (λ c. search needs)
     (λ c. search needs)
-    (λ c. search needs)
-    (λ c. search needs)
-    (λ c. search needs)
-    (λ c. search needs)
-    (λ c. search needs)
-    (λ c. search needs)
-    (λ c. search needs)
-    (λ c. search needs)
-    (λ c. search needs)
-    (λ c. search needs)
-    (λ c. search needs)
-    (λ c. search needs)
-    (λ c. search needs)
-    (λ c wide va. in-formats 0 kind.add-s fd-fs-ft _ va _ wide (c .before .before .pre .0) (sym (c .before .funct .ensures) ∙ c .match .keys1)
-    (record { s = refl; d = refl; w = refl; l = refl }))
-    (λ c wide va. in-formats 1 kind.sub-s fd-fs-ft _ va _ wide (c .before .before .pre .0) (sym (c .before .funct .ensures) ∙ c .match .keys2)
-    (record { s = refl; d = refl; w = refl; l = refl }))
-    (λ c wide va. in-formats 2 kind.mul-s fd-fs-ft _ va _ wide (c .before .before .pre .0) (sym (c .before .funct .ensures) ∙ c .match .keys3)
-    (record { s = refl; d = refl; w = refl; l = refl }))
-    (λ c wide va. in-formats 3 kind.div-s fd-fs-ft _ va _ wide (c .before .before .pre .0) (sym (c .before .funct .ensures) ∙ c .match .keys4)
-    (record { s = refl; d = refl; w = refl; l = refl }))
-    (λ c wide va. in-formats 4 kind.sqrt-s fd-fs _ va _ wide (c .before .before .pre .0) (sym (c .before .funct .ensures) ∙ c .match .keys5)
-    (record { s = refl; d = refl; w = refl; l = refl }))
-    (λ c wide va. in-formats 5 kind.abs-s fd-fs _ va _ wide (c .before .before .pre .0) (sym (c .before .funct .ensures) ∙ c .match .keys6)
-    (record { s = refl; d = refl; w = refl; l = refl }))
-    (λ c wide va. in-formats 6 kind.mov-s fd-fs _ va _ wide (c .before .before .pre .0) (sym (c .before .funct .ensures) ∙ c .match .keys7)
-    (record { s = refl; d = refl; w = refl; l = refl }))
-    (λ c wide va. in-formats 7 kind.neg-s fd-fs _ va _ wide (c .before .before .pre .0) (sym (c .before .funct .ensures) ∙ c .match .keys8)
-    (record { s = refl; d = refl; w = refl; l = refl }))
-    (λ c wide va. in-formats 13 kind.trunc-w-s fd-fs _ va _ wide (c .before .before .pre .0) (sym (c .before .funct .ensures) ∙ c .match .keys9)
-    (record { s = refl; d = refl; w = refl; l = refl }))
-    (λ c wide va. in-formats 32 kind.cvt-s-s fd-fs _ va _ wide (c .before .before .pre .0) (sym (c .before .funct .ensures) ∙ c .match .keys10)
-    (record { s = refl; d = refl; w = refl; l = refl }))
-    (λ c wide va. in-formats 33 kind.cvt-d-s fd-fs _ va _ wide (c .before .before .pre .0) (sym (c .before .funct .ensures) ∙ c .match .keys11)
-    (record { s = refl; d = refl; w = refl; l = refl }))
-    (λ c wide va. in-formats 36 kind.cvt-w-s fd-fs _ va _ wide (c .before .before .pre .0) (sym (c .before .funct .ensures) ∙ c .match .keys12)
-    (record { s = refl; d = refl; w = refl; l = refl }))
-    (λ c wide va. in-formats 37 kind.cvt-l-s fd-fs _ va _ wide (c .before .before .pre .0) (sym (c .before .funct .ensures) ∙ c .match .keys13)
-    (record { s = refl; d = refl; w = refl; l = refl }))
-    (λ c wide va. in-formats 50 kind.c-eq-s fs-ft _ va _ wide (c .before .before .pre .0) (sym (c .before .funct .ensures) ∙ c .match .keys14)
-    (record { s = refl; d = refl; w = refl; l = refl }))
-    (λ c wide va. in-formats 60 kind.c-lt-s fs-ft _ va _ wide (c .before .before .pre .0) (sym (c .before .funct .ensures) ∙ c .match .keys15)
-    (record { s = refl; d = refl; w = refl; l = refl }))
-    (λ c wide va. in-formats 62 kind.c-le-s fs-ft _ va _ wide (c .before .before .pre .0) (sym (c .before .funct .ensures) ∙ c .match .keys16)
-    (record { s = refl; d = refl; w = refl; l = refl }))
-    (λ c wide va. in-no-format keys _ va _ wide (c .before .before .pre .0) (subst (λ (k : ℕ). NoneOf k keys) (c .before .funct .ensures) (c .match .rest))
-    (record { s = refl; d = refl; w = refl; l = refl })))
+    (λ c. answer (c .before .before) _ (c .enum-told .given .1))
+    (λ c. answer (c .before .before) _ (c .enum-told2 .given .1))
+    (λ c. answer (c .before .before) _ (c .enum-told3 .given .1)))
