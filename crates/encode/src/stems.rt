@@ -9,7 +9,7 @@ use reading::kind;
 pub(crate) fn stem_of(m: u8) -> Stem
     ensures { λ r. ⌜ Is r m ⌝ }
 {
-    if m > kind::SD {
+    if m >= kind::MANY {
         return Stem::Alone(0);
     }
     if m >= kind::LB {

@@ -53,7 +53,7 @@ fn registered(o: Op) -> bool
 fn printable(i: Insn) -> bool
     ensures { λ r. ⌜ r ≡ Line.printable i ⌝ }
 {
-    if kind::SD < i.mnemonic {
+    if kind::MANY <= i.mnemonic {
         return false;
     }
     if OPERANDS < i.count {

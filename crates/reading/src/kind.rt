@@ -432,3 +432,6 @@ pub const SCD: u8 = 209;
 pub const SDC1: u8 = 210;
 
 pub const SD: u8 = 211;
+
+// How many there are.
+pub const MANY: u8 = 212;

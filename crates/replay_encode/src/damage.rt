@@ -49,8 +49,6 @@ const COUNT_PAST_SLOTS: u8 = 5;
 
 const LARGEST_BYTE: u8 = 255;
 
-const KINDS: u8 = 212;
-
 const NO_REGISTER: u8 = 40;
 
 const VALUES_OF_16_BITS: u64 = 0x1_0000;
@@ -154,7 +152,7 @@ fn other_count(insn: Insn, variant: u8) -> Insn {
 
 fn other_mnemonic(insn: Insn, variant: u8) -> Insn {
     match variant {
-        0 => with_mnemonic(insn, KINDS),
+        0 => with_mnemonic(insn, kind::MANY),
         1 => with_mnemonic(insn, LARGEST_BYTE),
         _ => insn,
     }
