@@ -1,4 +1,8 @@
-// The mnemonics as numbers, in the order of the manual's opcode tables. The numbers are those of specs/Kind.antt.
+// The mnemonics as numbers, in the order of the manual's opcode tables. The numbers are those of specs/Kind.antt, as
+// the contracts of `all` and `many` say.
+ghost use mathlib.Core.Path.{_≡_};
+ghost use mathlib.Core.List.{flatten};
+ghost use Rattle.reading.specs.Kind as Kind;
 
 // SPECIAL, by funct.
 pub const NOP: u8 = 0;
@@ -435,3 +439,78 @@ pub const SD: u8 = 211;
 
 // How many there are.
 pub const MANY: u8 = 212;
+
+// ── the definition's, by name and in its order ──
+
+const ROW: usize = 4;
+
+const ROWS: usize = MANY as usize / ROW;
+
+const ALL: [[u8; ROW]; ROWS] = [
+    [NOP, SSNOP, SLL, ROTR],
+    [SRL, SRA, SLLV, SRLV],
+    [SRAV, JR, JALR, MOVZ],
+    [MOVN, SYSCALL, BREAK, SYNC],
+    [MFHI, MTHI, MFLO, MTLO],
+    [DSLLV, DSRLV, DSRAV, MULT],
+    [MULTU, DIV, DIVU, DMULT],
+    [DMULTU, DDIV, DDIVU, ADD],
+    [MOVE, ADDU, SUB, NEGU],
+    [SUBU, AND, OR, XOR],
+    [NOT, NOR, SLT, SLTU],
+    [DADD, DADDU, DSUB, DSUBU],
+    [TGE, TGEU, TLT, TLTU],
+    [TEQ, TNE, DSLL, DSRL],
+    [DSRA, DSLL32, DSRL32, DSRA32],
+    [BLTZ, B, BGEZ, BLTZL],
+    [BGEZL, BLTZAL, BAL, BGEZAL],
+    [J, JAL, BEQZ, BEQ],
+    [BNEZ, BNE, BLEZ, BGTZ],
+    [ADDI, LI, ADDIU, SLTI],
+    [SLTIU, ANDI, ORI, XORI],
+    [LUI, MFC0, MTC0, ERET],
+    [WAIT, MFC1, DMFC1, CFC1],
+    [MTC1, DMTC1, CTC1, BC1F],
+    [BC1T, BC1FL, BC1TL, ADD_S],
+    [SUB_S, MUL_S, DIV_S, SQRT_S],
+    [ABS_S, MOV_S, NEG_S, TRUNC_W_S],
+    [CVT_S_S, CVT_D_S, CVT_W_S, CVT_L_S],
+    [C_EQ_S, C_LT_S, C_LE_S, ADD_D],
+    [SUB_D, MUL_D, DIV_D, SQRT_D],
+    [ABS_D, MOV_D, NEG_D, TRUNC_W_D],
+    [CVT_S_D, CVT_D_D, CVT_W_D, CVT_L_D],
+    [C_EQ_D, C_LT_D, C_LE_D, ADD_W],
+    [SUB_W, MUL_W, DIV_W, SQRT_W],
+    [ABS_W, MOV_W, NEG_W, TRUNC_W_W],
+    [CVT_S_W, CVT_D_W, CVT_W_W, CVT_L_W],
+    [C_EQ_W, C_LT_W, C_LE_W, ADD_L],
+    [SUB_L, MUL_L, DIV_L, SQRT_L],
+    [ABS_L, MOV_L, NEG_L, TRUNC_W_L],
+    [CVT_S_L, CVT_D_L, CVT_W_L, CVT_L_L],
+    [C_EQ_L, C_LT_L, C_LE_L, BEQZL],
+    [BEQL, BNEZL, BNEL, BLEZL],
+    [BGTZL, DADDI, DADDIU, LDL],
+    [LDR, MADD, MADDU, MUL],
+    [MSUB, CLZ, CLO, EXT],
+    [INS, WSBH, SEB, SEH],
+    [RDHWR, LB, LH, LWL],
+    [LW, LBU, LHU, LWR],
+    [LWU, SB, SH, SWL],
+    [SW, SDL, SDR, SWR],
+    [CACHE, LL, LWC1, PREF],
+    [LLD, LDC1, LD, SC],
+    [SWC1, SCD, SDC1, SD],
+];
+
+// Nobody calls the two: they are here to be proved.
+fn all() -> [[u8; ROW]; ROWS]
+    ensures { λ r. ⌜ flatten r ≡ Kind.kinds ⌝ }
+{
+    ALL
+}
+
+fn many() -> u8
+    ensures { λ r. ⌜ r ≡ Kind.many ⌝ }
+{
+    MANY
+}
