@@ -51,12 +51,13 @@ fn say_lines(body: &[u8], v: View) -> bool {
     true
 }
 
+// A flag is on if its bit is, whatever the others are.
 fn view(file: &[u8], n: usize) -> View {
     let flags = section::flags(file);
     View {
         va: section::address(file, n),
-        big_endian: flags % section::WIDE == section::BIG_ENDIAN,
-        bits64: section::WIDE <= flags,
+        big_endian: flags / section::BIG_ENDIAN % 2 == 1,
+        bits64: flags / section::WIDE % 2 == 1,
     }
 }
 
