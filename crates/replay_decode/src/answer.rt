@@ -65,12 +65,12 @@ const FORM: [u8; 170] =
 const SPACE: u8 = b' ';
 
 // What a line asks and, as numbers, what the Rust answered. All of it is 0 where the line is malformed.
-pub struct Answer {
-    pub good: bool,
-    pub wide: bool,
-    pub va: u64,
-    pub word: u32,
-    pub parts: [u64; PARTS],
+pub(crate) struct Answer {
+    pub(crate) good: bool,
+    pub(crate) wide: bool,
+    pub(crate) va: u64,
+    pub(crate) word: u32,
+    pub(crate) parts: [u64; PARTS],
 }
 
 // Has the line the form of an answer? A mnemonic has at least one letter, and no space after it.
@@ -133,7 +133,7 @@ fn malformed() -> Answer {
     }
 }
 
-pub fn read(line: &[u8]) -> Answer {
+pub(crate) fn read(line: &[u8]) -> Answer {
     if !is_well_formed(line) {
         return malformed();
     }
@@ -147,7 +147,7 @@ pub fn read(line: &[u8]) -> Answer {
 }
 
 // The last column; nothing where the line is too short to have one.
-pub fn mnemonic(line: &[u8]) -> &[u8] {
+pub(crate) fn mnemonic(line: &[u8]) -> &[u8] {
     if line.len() < MNEMONIC_AT {
         return &line[..0];
     }

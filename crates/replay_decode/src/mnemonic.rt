@@ -9,7 +9,7 @@ const PAD: u8 = 0;
 const NO_NAME: u8 = b'-';
 
 // Is the text the name of the kind? A zero in the text is no letter of a name.
-pub fn is_name(text: &[u8], kind: u8) -> bool {
+pub(crate) fn is_name(text: &[u8], kind: u8) -> bool {
     let size = text.len();
     if NAME_SIZE <= size {
         return false;
@@ -28,7 +28,7 @@ pub fn is_name(text: &[u8], kind: u8) -> bool {
     name[size] == PAD
 }
 
-pub fn is_no_name(text: &[u8]) -> bool {
+pub(crate) fn is_no_name(text: &[u8]) -> bool {
     if text.len() != 1 {
         return false;
     }

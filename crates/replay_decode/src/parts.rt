@@ -3,47 +3,47 @@ use reading::Decoded;
 use reading::Operand;
 use reading::Parts;
 
-pub const NUMBER: usize = 0;
+pub(crate) const NUMBER: usize = 0;
 
-pub const FLOW: usize = 1;
+pub(crate) const FLOW: usize = 1;
 
-pub const MARK: usize = 2;
+pub(crate) const MARK: usize = 2;
 
-pub const PRESENT: usize = 3;
+pub(crate) const PRESENT: usize = 3;
 
-pub const TARGET: usize = 4;
+pub(crate) const TARGET: usize = 4;
 
-pub const EFFECT: usize = 5;
+pub(crate) const EFFECT: usize = 5;
 
-pub const FIRST: usize = 6;
+pub(crate) const FIRST: usize = 6;
 
-pub const SECOND: usize = 7;
+pub(crate) const SECOND: usize = 7;
 
-pub const SIZE: usize = 8;
+pub(crate) const SIZE: usize = 8;
 
-pub const VALUE: usize = 9;
+pub(crate) const VALUE: usize = 9;
 
-pub const COUNT: usize = 10;
+pub(crate) const COUNT: usize = 10;
 
 // The four slots, with kind, register and value each.
-pub const SLOTS: usize = 11;
+pub(crate) const SLOTS: usize = 11;
 
-pub const PARTS_OF_SLOT: usize = 3;
+pub(crate) const PARTS_OF_SLOT: usize = 3;
 
 const SLOT_COUNT: usize = 4;
 
-pub const PARTS: usize = 23;
+pub(crate) const PARTS: usize = 23;
 
 // The mnemonic is the last part, and no number. Behind it: no part differs.
-pub const MNEMONIC: usize = 23;
+pub(crate) const MNEMONIC: usize = 23;
 
-pub const AGREE: usize = 24;
+pub(crate) const AGREE: usize = 24;
 
 // An operand slot; all of it is 0 for an unused one.
-pub struct Slot {
-    pub kind: u64,
-    pub register: u64,
-    pub value: u64,
+pub(crate) struct Slot {
+    pub(crate) kind: u64,
+    pub(crate) register: u64,
+    pub(crate) value: u64,
 }
 
 // The kind of `Op::Reg`, which an unused slot of a reading holds with register 0.
@@ -53,7 +53,7 @@ const REG: u64 = 1;
 const STRAY: u64 = 16;
 
 // The parts with a slot put in; k is 0 to 3, which the remainder tells the prover.
-pub fn with_slot(p: [u64; PARTS], k: usize, s: Slot) -> [u64; PARTS] {
+pub(crate) fn with_slot(p: [u64; PARTS], k: usize, s: Slot) -> [u64; PARTS] {
     let at = SLOTS + k % SLOT_COUNT * PARTS_OF_SLOT;
     let mut q = p;
     q[at] = s.kind;
@@ -93,7 +93,7 @@ fn slot_of(k: u8, count: u8, o: Operand) -> Slot {
 }
 
 // The parts of a reading. A refusal's are those of the blank reading, all 0 but the number.
-pub fn of(d: Decoded) -> [u64; PARTS] {
+pub(crate) fn of(d: Decoded) -> [u64; PARTS] {
     let insn = d.insn;
     let flow = insn.flow;
     let target = insn.target;
@@ -120,7 +120,7 @@ pub fn of(d: Decoded) -> [u64; PARTS] {
 }
 
 // The first part in which two answers differ, or `PARTS`.
-pub fn first_difference(a: [u64; PARTS], b: [u64; PARTS]) -> usize {
+pub(crate) fn first_difference(a: [u64; PARTS], b: [u64; PARTS]) -> usize {
     let mut i = 0;
     while i < PARTS {
         if a[i] != b[i] {

@@ -3,31 +3,31 @@ use crate::parts;
 use libc::STDOUT_FILENO;
 
 // The three ways to decode a word.
-pub const BY_WORD: u8 = 0;
+pub(crate) const BY_WORD: u8 = 0;
 
-pub const BY_LITTLE_ENDIAN: u8 = 1;
+pub(crate) const BY_LITTLE_ENDIAN: u8 = 1;
 
-pub const BY_BIG_ENDIAN: u8 = 2;
+pub(crate) const BY_BIG_ENDIAN: u8 = 2;
 
 // The digits of a word.
 const WORD_DIGITS: usize = 8;
 
-pub enum Verdict {
+pub(crate) enum Verdict {
     Agrees,
     Malformed,
     // The word, the part and the way.
     Differs(u32, usize, u8),
 }
 
-pub struct Tally {
-    pub answers: u64,
-    pub agreed: u64,
+pub(crate) struct Tally {
+    answers: u64,
+    agreed: u64,
     // The first answer that does not agree, and its line; lines count from 1, and 0 is none.
-    pub line: u64,
-    pub first: Verdict,
+    line: u64,
+    first: Verdict,
 }
 
-pub fn nothing_yet() -> Tally {
+pub(crate) fn nothing_yet() -> Tally {
     Tally {
         answers: 0,
         agreed: 0,
@@ -42,7 +42,7 @@ fn one_more(n: u64) -> u64 {
 }
 
 impl Tally {
-    pub fn with(self, verdict: Verdict) -> Tally {
+    pub(crate) fn with(self, verdict: Verdict) -> Tally {
         let answers = one_more(self.answers);
         let first = self.first;
         if let Verdict::Agrees = verdict {
@@ -134,7 +134,7 @@ fn print_first(line: u64, first: Verdict) {
     print(b"\n");
 }
 
-pub fn say(t: Tally) {
+pub(crate) fn say(t: Tally) {
     io::print_decimal(STDOUT_FILENO, t.answers);
     print(b" answers, ");
     io::print_decimal(STDOUT_FILENO, t.agreed);

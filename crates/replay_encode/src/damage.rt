@@ -12,35 +12,35 @@ use reading::Target;
 use reading::kind;
 
 // The parts that are changed, each in so many ways at most: a way is a part times `VARIANTS` and a variant.
-pub const COUNT: u8 = 0;
+pub(crate) const COUNT: u8 = 0;
 
-pub const REGISTER: u8 = 1;
+pub(crate) const REGISTER: u8 = 1;
 
-pub const MNEMONIC: u8 = 2;
+pub(crate) const MNEMONIC: u8 = 2;
 
-pub const PLACE: u8 = 3;
+pub(crate) const PLACE: u8 = 3;
 
-pub const UNUSED_REGISTER: u8 = 4;
+pub(crate) const UNUSED_REGISTER: u8 = 4;
 
-pub const UNUSED_IMMEDIATE: u8 = 5;
+pub(crate) const UNUSED_IMMEDIATE: u8 = 5;
 
-pub const FLOW: u8 = 6;
+pub(crate) const FLOW: u8 = 6;
 
-pub const MARK: u8 = 7;
+pub(crate) const MARK: u8 = 7;
 
-pub const TARGET: u8 = 8;
+pub(crate) const TARGET: u8 = 8;
 
-pub const EFFECT: u8 = 9;
+pub(crate) const EFFECT: u8 = 9;
 
-pub const EFFECT_PART: u8 = 10;
+pub(crate) const EFFECT_PART: u8 = 10;
 
-pub const VALUE: u8 = 11;
+pub(crate) const VALUE: u8 = 11;
 
-pub const ADDRESS: u8 = 12;
+const ADDRESS: u8 = 12;
 
-pub const VARIANTS: u8 = 6;
+pub(crate) const VARIANTS: u8 = 6;
 
-pub const WAYS: u8 = 78;
+pub(crate) const WAYS: u8 = 78;
 
 const SLOTS: u8 = 4;
 
@@ -400,7 +400,7 @@ fn other_effect_part(insn: Insn, variant: u8) -> Insn {
 }
 
 // The reading changed in one way; unchanged where it has nothing to change in this way.
-pub fn damaged(insn: Insn, way: u8) -> Insn {
+pub(crate) fn damaged(insn: Insn, way: u8) -> Insn {
     let variant = way % VARIANTS;
     let part = way / VARIANTS;
     match part {

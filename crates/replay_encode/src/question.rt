@@ -20,12 +20,12 @@ const FORM: [u8; LINE_BYTES] = *b"b hhhhhhhhhhhhhhhh hhhhhhhh hhhhhhhh";
 
 // A word at an address under a width flag, and the smallest word that the Rust reads in the same way. All of it is 0 where the line
 // is malformed.
-pub struct Question {
-    pub good: bool,
-    pub wide: bool,
-    pub va: u64,
-    pub word: u32,
-    pub smallest: u32,
+pub(crate) struct Question {
+    pub(crate) good: bool,
+    pub(crate) wide: bool,
+    pub(crate) va: u64,
+    pub(crate) word: u32,
+    pub(crate) smallest: u32,
 }
 
 fn is_well_formed(line: &[u8]) -> bool {
@@ -43,7 +43,7 @@ fn malformed() -> Question {
     }
 }
 
-pub fn read(line: &[u8]) -> Question {
+pub(crate) fn read(line: &[u8]) -> Question {
     if !is_well_formed(line) {
         return malformed();
     }

@@ -9,7 +9,7 @@ const WORD_DIGITS: usize = 8;
 // A wrong table makes every line fail, and the first of them say enough.
 const MOST_SHOWN: u64 = 8;
 
-pub enum Verdict {
+pub(crate) enum Verdict {
     Agrees,
     Malformed,
     // The word, which the decoder refuses.
@@ -22,16 +22,16 @@ pub enum Verdict {
     DamageEncoded(u32, u8, Encoded),
 }
 
-pub struct Tally {
-    pub words: u64,
-    pub agreed: u64,
-    pub damaged: u64,
-    pub refused: u64,
+pub(crate) struct Tally {
+    words: u64,
+    agreed: u64,
+    damaged: u64,
+    refused: u64,
     // How many failures are printed.
-    pub shown: u64,
+    shown: u64,
 }
 
-pub fn nothing_yet() -> Tally {
+pub(crate) fn nothing_yet() -> Tally {
     Tally {
         words: 0,
         agreed: 0,
@@ -47,28 +47,28 @@ fn one_more(n: u64) -> u64 {
 }
 
 impl Tally {
-    pub fn with_word(mut self) -> Tally {
+    pub(crate) fn with_word(mut self) -> Tally {
         self.words = one_more(self.words);
         self
     }
 
-    pub fn with_agreed(mut self) -> Tally {
+    pub(crate) fn with_agreed(mut self) -> Tally {
         self.agreed = one_more(self.agreed);
         self
     }
 
-    pub fn with_damaged(mut self) -> Tally {
+    pub(crate) fn with_damaged(mut self) -> Tally {
         self.damaged = one_more(self.damaged);
         self
     }
 
-    pub fn with_refused(mut self) -> Tally {
+    pub(crate) fn with_refused(mut self) -> Tally {
         self.refused = one_more(self.refused);
         self
     }
 
     // Prints what failed in the line that was counted last, if not too much has been printed.
-    pub fn with_failure(mut self, verdict: Verdict) -> Tally {
+    pub(crate) fn with_failure(mut self, verdict: Verdict) -> Tally {
         if self.shown < MOST_SHOWN {
             print_failure(self.words, verdict);
         }
@@ -154,7 +154,7 @@ fn print_failure(line: u64, verdict: Verdict) {
     print(b"\n");
 }
 
-pub fn say(t: Tally) {
+pub(crate) fn say(t: Tally) {
     print_number(t.words);
     print(b" words, ");
     print_number(t.agreed);
