@@ -57,6 +57,7 @@ of-decode =
     record {
       decode = by-equation (λ κs a v w. refl);
       decode-word = by-equation (λ κs a v w. refl);
+      word-in = by-equation (λ κs a v w. refl);
     }
 
 of-encode : Encode

@@ -51,7 +51,8 @@ pub fn decode(bytes: &[u8], va: u64, big_endian: bool, bits64: bool) -> Decoded
     decode_word(word_in(b, big_endian), va, bits64)
 }
 
-fn word_in(b: [u8; 4], big_endian: bool) -> u32
+// The word that four bytes are.
+pub fn word_in(b: [u8; 4], big_endian: bool) -> u32
     ensures { λ r. ⌜ r ≡ wordIn «big_endian» b ⌝ }
 {
     if big_endian {

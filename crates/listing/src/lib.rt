@@ -62,11 +62,7 @@ fn word(body: &[u8], v: View, n: usize) -> u32
 {
     let at = WORD * n;
     let b = [body[at], body[at + 1], body[at + 2], body[at + 3]];
-    if v.big_endian {
-        word::from_be_bytes(b)
-    } else {
-        word::from_le_bytes(b)
-    }
+    decode::word_in(b, v.big_endian)
 }
 
 // How many words of a body are refused.

@@ -7,13 +7,8 @@ use Rattle.listing.proofs.word.Tie as tie
 
 returns : tie.Need-returns
 returns c =
-    let s = c .before .before .before .before .before .before .before in
-    rw (four (s .args .body .now) (s .args .n) (s .pre), c .before .if1 .taken) (c .from-be-bytes .ensures)
-
-returns-2 : tie.Need-returns-2
-returns-2 c =
-    let s = c .before .before .before .before .before .before .before in
-    rw (four (s .args .body .now) (s .args .n) (s .pre), c .before .if1 .left) (c .from-le-bytes .ensures)
+    let s = c .before .before .before .before .before .before in
+    rw (four (s .args .body .now) (s .args .n) (s .pre)) (c .word-in .ensures)
 
 pub word-spec : {M : Type 1} → statement M
 word-spec =
@@ -28,6 +23,4 @@ word-spec =
     (λ c. search needs)
     (λ c. search needs)
     (λ c κs. search needs)
-    (λ c κs. search needs)
-    returns
-    returns-2)
+    returns)
