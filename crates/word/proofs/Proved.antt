@@ -18,6 +18,9 @@ sixteen = twos-complement 16 refl
 pub thirty-two : TwosComplement 32
 thirty-two = twos-complement 32 refl
 
+pub sixty-four : TwosComplement 64
+sixty-four = twos-complement 64 refl
+
 pub ends : Ends
 unfolding signed upper sizeOf
 ends =
