@@ -5,7 +5,7 @@ crates/classes/specs, read words by them, and compare every part of every readin
     check.py REPOSITORY < ANSWERS
 
 ANSWERS are lines of tests/vectors/README.md's format. antt.py reads the tables; what their words mean (`Meaning.antt`,
-`Numbers.antt`) is written here a second time, from document 01. The mnemonic kinds of the code are held against those of the specs too.
+`Numbers.antt`) is written here a second time, from document 01. The mnemonic kinds of the code are compared with those of the specs too.
 """
 import re
 import sys
