@@ -26,7 +26,7 @@ use Rattle.inverse.proofs.Twins.{valueIn, own-holds}
 use Rattle.inverse.proofs.Tables.{first}
 use Rattle.inverse.proofs.Later.{later, unsignedLi, Alone}
 use Rattle.manual.specs.Page.{Line, has}
-use Rattle.manual.specs.Patching.{Range, all, below-0x8000, inRange, Change, Swap, swaps, valueOf, orElse, changed, ofLine, swapIn}
+use Rattle.manual.specs.Patching.{Range, all, below-0x8000, inRange, Setting, Swap, swaps, valueOf, setOr, changed, ofLine, swapIn}
 use Rattle.manual.proofs.Axes.{at, pair, axes, coord, four, by-parts, askLine, line-passing}
 use Rattle.manual.proofs.Verdict.{Part}
 
@@ -48,25 +48,25 @@ module _ (ℓ : Line) (r : Row) (f : Fields) (fit : Fit f) (t : T (takes r f)) (
       (below (λ v. not (match (patOf r x) v && passes (askLine ℓ (at x)) v) || eqb v a) (room x) s (f x) (fit x))
       (and-i (match (patOf r x) (f x)) _ (takes-at r f t x) (line-at x)))
 
--- row h's word with the fields of one of row r's: these changes are all
-unfoldable pub fitsAt : Line → Row → Row → List Change → Field → Bool
+-- row h's word with the fields of one of row r's: these settings are all
+unfoldable pub fitsAt : Line → Row → Row → List Setting → Field → Bool
 fitsAt ℓ r h cs x =
     elim (valueOf cs x) [
       | none ↦ isRead (patOf h x) || fixedAt ℓ r x (base h x)
       | some v ↦ not (isRead (patOf h x)) && eqb (base h x) v
     ]
 
-unfoldable pub fits : Line → Row → Row → List Change → Bool
+unfoldable pub fits : Line → Row → Row → List Setting → Bool
 fits ℓ r h cs = six (fitsAt ℓ r h cs)
 
-module _ (ℓ : Line) (r : Row) (f : Fields) (fit : Fit f) (t : T (takes r f)) (u : T (has ℓ f)) (h : Row) (cs : List Change) (s : T (fits ℓ r h cs)) where
+module _ (ℓ : Line) (r : Row) (f : Fields) (fit : Fit f) (t : T (takes r f)) (u : T (has ℓ f)) (h : Row) (cs : List Setting) (s : T (fits ℓ r h cs)) where
   pub fits-fields : lift h f ≡ changed cs f
   unfolding fits fitsAt lift changed
   fits-fields = fun-ext (λ x. go x (valueOf cs x) (six-at (fitsAt ℓ r h cs) s x))
     where
       go : (x : Field) (o : Option ℕ) →
           T (elim o [ none ↦ isRead (patOf h x) || fixedAt ℓ r x (base h x) | some v ↦ not (isRead (patOf h x)) && eqb (base h x) v ]) →
-          cond (isRead (patOf h x)) (f x) (base h x) ≡ orElse o (f x)
+          cond (isRead (patOf h x)) (f x) (base h x) ≡ setOr o (f x)
       go x none k = read (isRead (patOf h x)) k
         where
           read : (b : Bool) → T (b || fixedAt ℓ r x (base h x)) → cond b (f x) (base h x) ≡ f x
@@ -125,7 +125,7 @@ module _ (r : Row) (va : ℕ) (f : Fields) (fit : Fit f) where
 
 -- ── one line and one row ──
 
--- a swap of the line: the first row of the mnemonic is picked, and makes these changes
+-- a swap of the line: the first row of the mnemonic is picked, and makes these settings
 unfoldable pub swapping : List Row → Line → Row → Swap → Bool
 swapping ts ℓ r s =
     elim (first ts (r .kind)) [ none ↦ false | some h ↦ (not (h .nops) && suited (s .range) h r) && fits ℓ r h (s .back) ]

@@ -33,11 +33,11 @@ inRange all f = true
 inRange below-0x8000 f = ltb (imm f) 0x8000
 
 -- a field, and the value with which it comes back
-pub record Change : Type 0 where
+pub record Setting : Type 0 where
   pub field : Field
   pub value : ℕ
 
-abbrev pub _gets_ : Field → ℕ → Change
+abbrev pub _gets_ : Field → ℕ → Setting
 x gets v = record { field = x; value = v }
 
 infix 70 _gets_
@@ -47,10 +47,10 @@ pub record Swap : Type 0 where
   pub page : String
   pub read-as : String
   pub range : Range
-  pub back : List Change
+  pub back : List Setting
   pub example : Example
 
-abbrev pub swap : Swapped → String → String → Range → List Change → Example → Swap
+abbrev pub swap : Swapped → String → String → Range → List Setting → Example → Swap
 swap n p m ρ cs x = record { swapped = n; page = p; read-as = m; range = ρ; back = cs; example = x }
 
 unfoldable pub swaps : List Swap
@@ -68,17 +68,17 @@ swaps =
 
 -- ── what comes back ──
 
-unfoldable pub valueOf : List Change → Field → Option ℕ
+unfoldable pub valueOf : List Setting → Field → Option ℕ
 valueOf [] x = none
 valueOf (c ∷ cs) x = cond (sameField (c .field) x) (some (c .value)) (valueOf cs x)
 
-abbrev pub orElse : Option ℕ → ℕ → ℕ
-orElse none a = a
-orElse (some v) a = v
+abbrev pub setOr : Option ℕ → ℕ → ℕ
+setOr none a = a
+setOr (some v) a = v
 
--- the fields, with these changes
-unfoldable pub changed : List Change → Fields → Fields
-changed cs f x = orElse (valueOf cs x) (f x)
+-- the fields, with these settings
+unfoldable pub changed : List Setting → Fields → Fields
+changed cs f x = setOr (valueOf cs x) (f x)
 
 -- the line has its page and mnemonic
 unfoldable pub ofLine : Swap → Line → Bool
