@@ -42,13 +42,17 @@ base r x = least (patOf r x)
 unfoldable pub leastIn : Row → Field → Bool
 leastIn r x = (isRead (patOf r x) || match (patOf r x) (base r x)) && ltb (base r x) (room x)
 
+-- the field has this value and no other
+abbrev pub fixedTo : ℕ → Pat → Bool
+fixedTo n (is v) = eqb v n
+fixedTo n read = false
+fixedTo n (readBut v) = false
+fixedTo n (skip y) = false
+fixedTo n (skipBut v) = false
+fixedTo n (low v) = false
+
 abbrev pub isZero : Pat → Bool
-isZero (is v) = eqb v 0
-isZero read = false
-isZero (readBut v) = false
-isZero (skip y) = false
-isZero (skipBut v) = false
-isZero (low v) = false
+isZero p = fixedTo 0 p
 
 abbrev pub isFree : Pat → Bool
 isFree (is v) = false

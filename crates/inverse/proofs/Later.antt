@@ -5,16 +5,16 @@ use mathlib.Core.Path.{_≡_, refl, sym, _∙_, ap, subst}
 use mathlib.Core.Bool.{Bool, true, false, not, cond, _&&_, _||_}
 use mathlib.Core.List.{List, [], _∷_}
 use mathlib.Core.Logic.{_⊎_, inl, inr, ⊎-elim}
-use mathlib.Core.Option.{Option, none, some}
+use mathlib.Core.Option.{none, some}
 use lib.Dec.{T, T-not, eqb, eqb→eq, eqb-refl}
 use lib.IntN.{ℤ}
 use Rattle.word.specs.Word.{word}
 use Rattle.reading.specs.Kind as kind
-use Rattle.classes.specs.Row.{Form, Row}
+use Rattle.classes.specs.Row.{Row}
 use Rattle.classes.specs.Table.{rt-imm, rt-uimm}
-use Rattle.classes.proofs.Tests.{and-l, and-r, and-i, implied, at-true, at-false, sameForm}
+use Rattle.classes.proofs.Tests.{and-l, and-r, and-i, implied, at-true, sameForm}
 use Rattle.classes.proofs.Find.{In, every, every-in}
-use Rattle.inverse.proofs.Good.{base, inSigned, inUnsigned, holds, suits}
+use Rattle.inverse.proofs.Good.{base, inSigned, holds, suits}
 use Rattle.inverse.proofs.Tables.{pick, first}
 
 -- another row has the mnemonic first

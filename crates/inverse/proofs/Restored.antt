@@ -1,6 +1,6 @@
 -- The word that a word's reading gets: which row it is of, and its fields. And that what its class does not read of it is zero.
 -- Assumes nothing.
-use Prim.Native.Nat.{ℕ, _+_, _%_, _/_, _^_, _<_, _≤_}
+use Prim.Native.Nat.{ℕ, _+_, _%_, _^_, _<_, _≤_}
 use mathlib.Core.Path.{_≡_, refl, sym, _∙_, ap, subst}
 use mathlib.Core.Bool.{Bool, true, false, not, cond, _&&_, _||_}
 use mathlib.Core.List.{List}
@@ -25,11 +25,11 @@ use Rattle.classes.proofs.Boxes.{taken-or-refused}
 use Rattle.classes.proofs.Accepts.{accepted-insn}
 use Rattle.classes.proofs.Find.{In, every, every-in, find-in, only-row}
 use Rattle.classes.proofs.Uses.{isRead}
-use Rattle.inverse.specs.Encoded.{Has, Encodes, smallest, no-word}
+use Rattle.inverse.specs.Encoded.{Encodes, smallest, no-word}
 use Rattle.inverse.specs.Least.{ZeroAt, NeedsOne, rotr, sll-by-0, sll-by-1, Least}
 use Rattle.inverse.proofs.Fill.{filled, nth}
-use Rattle.inverse.proofs.Good.{least, base, suits}
-use Rattle.inverse.proofs.Rows.{takes-at, takes-nop, nop-fields, like-nop, isNop, afterNops, candidate, Sound, Nops, nops-row, Within, lift, lift-read, lift-unread, lift-fit, lift-word}
+use Rattle.inverse.proofs.Good.{least, base, fixedTo, suits}
+use Rattle.inverse.proofs.Rows.{takes-at, takes-nop, nop-fields, like-nop, isNop, afterNops, candidate, Sound, Nops, nops-row, Within, lift, lift-fit, lift-word}
 use Rattle.inverse.proofs.Twins.{valueIn, pair-outs}
 use Rattle.inverse.proofs.Tables.{Near, Picked, Good}
 use Rattle.inverse.proofs.Smallest.{answerBy, answer-is, picked-for, tried-for, within-for, has-for, tries-for, smallest-law}
@@ -138,18 +138,10 @@ zero-zero (low v) = refl
 -- ── rs 1 ──
 
 -- the row of `rotr` has it
-abbrev isOne : Pat → Bool
-isOne (is v) = eqb v 1
-isOne read = false
-isOne (readBut v) = false
-isOne (skip y) = false
-isOne (skipBut v) = false
-isOne (low v) = false
-
 unfoldable pub rotates : Row → Bool
-rotates r = not (eqb (r .kind) kind.rotr) || isOne (r .prs)
+rotates r = not (eqb (r .kind) kind.rotr) || fixedTo 1 (r .prs)
 
-one-is : (p : Pat) (a : ℕ) → T (isOne p) → T (match p a) → a ≡ 1
+one-is : (p : Pat) (a : ℕ) → T (fixedTo 1 p) → T (match p a) → a ≡ 1
 unfolding match
 one-is (is v) a t m = eqb→eq a v m ∙ eqb→eq v 1 t
 one-is read a t m = absurd t
@@ -161,7 +153,7 @@ one-is (low v) a t m = absurd t
 pub needs-one : (r : Row) (w : ℕ) → T (rotates r) → T (takes r (fieldsOf w)) → NeedsOne r w → fieldsOf w rs ≡ 1
 unfolding rotates fieldsOf
 needs-one r w t k (rotr e) =
-    one-is (r .prs) (fieldsOf w rs) (implied (eqb (r .kind) kind.rotr) (isOne (r .prs)) t (at-true (eq-eqb (r .kind) kind.rotr e)))
+    one-is (r .prs) (fieldsOf w rs) (implied (eqb (r .kind) kind.rotr) (fixedTo 1 (r .prs)) t (at-true (eq-eqb (r .kind) kind.rotr e)))
     (takes-at r (fieldsOf w) k rs)
 needs-one r w t k (sll-by-0 e) = ap (λ (n : ℕ). fieldsOf n rs) e
 needs-one r w t k (sll-by-1 e) = ap (λ (n : ℕ). fieldsOf n rs) e

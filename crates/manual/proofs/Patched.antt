@@ -14,7 +14,7 @@ use Rattle.reading.specs.declared.Insn.{Insn}
 use Rattle.reading.specs.declared.Encoded.{Encoded}
 use Rattle.reading.specs.Kind.{from}
 use Rattle.classes.specs.Row.{Row}
-use Rattle.classes.specs.Meaning.{six, takes, find, outs, meaning}
+use Rattle.classes.specs.Meaning.{six, takes, find, outs}
 use Rattle.classes.specs.Table.{table}
 use Rattle.classes.specs.Refusals.{elem, holds, meets, refusals}
 use Rattle.classes.specs.Decoded.{decodedOf}

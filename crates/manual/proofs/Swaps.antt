@@ -1,15 +1,13 @@
 -- What of a word comes back when its reading is encoded: the test of a line of the manual and the row of its words, and what a passed test
 -- says of each word that both have.
 -- Assumes nothing.
-use Prim.Native.Nat.{ℕ, _<_, _≤_}
-use mathlib.Core.Path.{_≡_, refl, sym, _∙_, ap, subst, fun-ext}
+use Prim.Native.Nat.{ℕ}
+use mathlib.Core.Path.{_≡_, refl, sym, _∙_, subst, fun-ext}
 use mathlib.Core.Bool.{Bool, true, false, not, cond, _&&_, _||_}
 use mathlib.Core.List.{List, [], _∷_}
-use mathlib.Core.Logic.{_⊎_, inl, inr, ⊎-elim}
-use mathlib.Core.Option.{Option, none, some, Option·none-ne-some, Option·some-injective}
-use native.Mathlib.Omega.{arith}
-use borrow.Author.Tests.{ltb-false}
-use lib.Dec.{T, eqb, eqb→eq, ltb, ltb→lt}
+use mathlib.Core.Logic.{inl, inr, ⊎-elim}
+use mathlib.Core.Option.{Option, none, some}
+use lib.Dec.{T, eqb, eqb→eq, ltb}
 use lib.IntN.{ℤ, pos}
 use Rattle.word.specs.Word.{Field, Fields, Fit, room}
 use Rattle.word.specs.Numbers.{imm}
@@ -27,7 +25,7 @@ use Rattle.inverse.proofs.Tables.{first}
 use Rattle.inverse.proofs.Later.{later, unsignedLi, Alone}
 use Rattle.manual.specs.Page.{Line, has}
 use Rattle.manual.specs.Patching.{Range, all, below-0x8000, inRange, Setting, Swap, swaps, valueOf, setOr, changed, ofLine, swapIn}
-use Rattle.manual.proofs.Axes.{at, pair, axes, coord, four, by-parts, askLine, line-passing}
+use Rattle.manual.proofs.Axes.{at, by-parts, askLine, line-passing}
 use Rattle.manual.proofs.Verdict.{Part}
 
 -- ── one field ──

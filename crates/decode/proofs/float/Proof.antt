@@ -1,7 +1,7 @@
 -- `decode::float` meets its contract.
 -- Assumes nothing.
 use Prim.Native.Nat.{ℕ, _+_}
-use mathlib.Core.Path.{_≡_, sym, _∙_, subst}
+use mathlib.Core.Path.{_≡_, subst}
 use mathlib.Core.Bool.{Bool}
 use mathlib.Core.Logic.{inl, ⊎-map}
 use native.Mathlib.Omega.{arith}
