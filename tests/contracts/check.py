@@ -7,7 +7,7 @@
   answer. (That the theorem is true is the prover's matter; that no function is forgotten is looked at here.)
 - No public contract, and no file of specs/ outside specs/Private, uses what stands in specs/Private.
 - docs/PROVED.md names two wrong answers or more for each public function, each of them kept as a must-fail edit, and leaves no edit out; the
-  sizes that it gives of definitions are those of the files.
+  sizes that it gives of definitions are those of the files. An edit changes code or a definition and never a proof.
 
 It reads text, of the layout that `rt fmt` gives it. It prints what was looked at, or what is wrong, with status 1.
 """
@@ -100,7 +100,11 @@ def check_private(root):
 
 
 def kept_edits(root):
-    return {f"{path.parts[-3]}/{path.stem}" for path in root.glob("crates/*/must-fail/*.edit")}
+    paths = list(root.glob("crates/*/must-fail/*.edit"))
+    for path in paths:
+        changed = re.findall(r"^file: (\S+)", path.read_text(), re.M)
+        demand(changed and all(file.startswith(("src/", "specs/")) for file in changed), f"{path.relative_to(root)} changes a proof")
+    return {f"{path.parts[-3]}/{path.stem}" for path in paths}
 
 
 def check_edits(text, public, kept):
