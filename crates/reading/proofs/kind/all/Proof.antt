@@ -1,11 +1,10 @@
 -- `kind::all` meets its contract: the constants of the code are the kinds of the definition, one by one.
 -- Assumes nothing.
 use mathlib.Core.Path.{refl}
-use mathlib.Core.List.{flatten}
 use Rattle.reading.specs.Kind.{kinds}
 use Rattle.reading.proofs.kind.all.Statement.{statement}
 use Rattle.reading.proofs.kind.all.Tie as tie
 
 pub all-spec : {M : Type 1} → statement M
-unfolding flatten kinds
+unfolding kinds
 all-spec = tie.close (tie.spec (λ c. refl))
