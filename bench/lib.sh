@@ -1,5 +1,5 @@
 # Shared by the scripts of bench/: words to count over, the counting of a run, and the table. A script sets root, bench and out, reads
-# tests/lib.sh and then this file.
+# tools/lib.sh and then this file.
 # shellcheck shell=sh
 # shellcheck disable=SC2154
 

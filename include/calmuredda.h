@@ -1,14 +1,15 @@
-/* Calmuredda for a host program in C: a word of MIPS code to a packed record, a record back to its smallest word or to its printed line;
-   section files, and the blocks and listing pages of their bodies.
+/* Calmuredda for a host program in C: a word of MIPS code to a packed record, a record back to its smallest word or to
+   its printed line; section files, and the blocks and listing pages of their bodies.
 
-   Link with libcalmuredda.a, which is for x86-64 and the System V calling convention. The library allocates nothing, keeps no
-   pointer and has no state; of the C library it needs memcpy and memset at most. What is lent to a call is used during
-   that call only. Any number of threads may call at once, as long as no two calls write to one buffer and nobody writes
-   to what a call reads.
+   Link with libcalmuredda.a, which is for x86-64 and the System V calling convention. The library allocates nothing,
+   keeps no pointer and has no state; of the C library it needs memcpy and memset at most. What is lent to a call is
+   used during that call only. Any number of threads may call at once, as long as no two calls write to one buffer and
+   nobody writes to what a call reads.
 
-   A slice is a pointer and a length in bytes. With length 0 the pointer may be null and is not followed. No pointer to bytes needs
-   any alignment. A pointer to one number (size_t *, uint8_t *kind) is not null, is aligned as that type is, and must not
-   overlap any other argument; the number is written at every call, and what it was before is not looked at. A flag is a number: 0 is off, any other number is on. */
+   A slice is a pointer and a length in bytes. With length 0 the pointer may be null and is not followed. No pointer to
+   bytes needs any alignment. A pointer to one number (size_t *, uint8_t *kind) is not null, is aligned as that type is,
+   and must not overlap any other argument; the number is written at every call, and what it was before does not
+   matter. */
 #ifndef CALMUREDDA_H
 #define CALMUREDDA_H
 
@@ -30,7 +31,7 @@ enum {
     CALMUREDDA_COP1 = 6,
     CALMUREDDA_SPECIAL2 = 7,
     CALMUREDDA_SPECIAL3 = 8,
-    CALMUREDDA_NO_WORD = 9,       /* no word has the record at that address under that flag; or these bytes are not the record of any reading */
+    CALMUREDDA_NO_WORD = 9,       /* no word has the record at that address under that flag, or no reading has it */
     CALMUREDDA_NO_LINE = 10,      /* over 4 operands, or a register above 31 in one that is used */
     CALMUREDDA_NO_ROOM = 11,      /* the line, or the first line of a page, has no room */
     CALMUREDDA_BAD_HEADER = 12,   /* a file's length, count, flags or total, or its records are cut off */
@@ -40,7 +41,8 @@ enum {
     CALMUREDDA_SHORT_RECORD = 16  /* fewer than 80 bytes for the record, or of it */
 };
 
-/* The record: 80 bytes. Numbers of more than one byte are little-endian, negative ones two's complement; what is absent is 0. */
+/* The record: 80 bytes. Numbers of more than one byte are little-endian, negative ones two's complement; what is absent
+   is 0. */
 enum {
     CALMUREDDA_RECORD_BYTES = 80,
     CALMUREDDA_AT_NUMBER = 0,     /* 0, or the number of the refusal; then all other bytes are 0 */
@@ -85,10 +87,12 @@ enum {
     CALMUREDDA_KIND_MEM = 4, CALMUREDDA_KIND_ADDR = 5, CALMUREDDA_KIND_COP0 = 6
 };
 
-/* Decodes the first four of `bytes` as the word at address `va`, which may be any number. The bytes after them are not looked at.
+/* Decodes the first four of `bytes` as the word at address `va`, which may be any number. The bytes after them do not
+   matter.
 
    big: the four bytes are in big-endian order, else in little-endian.
    wide: the code is MIPS64. It matters to SPECIAL 45 with rt zero alone, which is `move` with it and `daddu` without.
+   Each of the two is a number: 0 is off, any other number is on.
 
    Answers a number and writes the record to `record`:
      record_len below 80           CALMUREDDA_SHORT_RECORD, whatever the other arguments are; nothing is written
@@ -99,30 +103,34 @@ enum {
 uint8_t calmuredda_decode(const uint8_t *bytes, size_t bytes_len, uint64_t va, uint8_t big, uint8_t wide,
                           uint8_t *record, size_t record_len);
 
-/* Encodes the first 80 bytes of `record`, at address `va` and under the flag `wide`. The bytes after them are not looked at.
+/* Encodes the first 80 bytes of `record`, at address `va` and under the flag `wide`. The bytes after them do not
+   matter.
 
    Answers two numbers in one, which CALMUREDDA_NUMBER and CALMUREDDA_WORD take apart:
      record_len below 80           CALMUREDDA_SHORT_RECORD and word 0
      a word's record, there        CALMUREDDA_ACCEPTED and the smallest word that has it
      anything else                 CALMUREDDA_NO_WORD and word 0; a refusal's record too
-   Several words can have one record, so that the answer may differ from the word that was decoded; it decodes to the same
-   80 bytes. It is a number: to put it into code, write its four bytes in the order of that code. `record` is only read. */
+   Several words can have the same record, so that the answer may differ from the word that was decoded; it decodes to
+   the same 80 bytes. It is a number: to put it into code, write its four bytes in the order of that code. `record` is
+   only read. */
 uint64_t calmuredda_encode(const uint8_t *record, size_t record_len, uint64_t va, uint8_t wide);
 
-/* The parts of calmuredda_encode's answer, number * 2^32 + word. Compare the number first: word 0 is also the word of `nop`. */
+/* The parts of calmuredda_encode's answer, number * 2^32 + word. Compare the number first: word 0 is also the word of
+   `nop`. */
 #define CALMUREDDA_NUMBER(answer) ((uint8_t)((answer) >> 32))
 #define CALMUREDDA_WORD(answer) ((uint32_t)(answer))
 
-/* Prints the line of the reading whose record is in the first 80 bytes of `record`: `lw v0, 16(a0)`, without a newline or a zero after it.
+/* Prints the line of the reading whose record is in the first 80 bytes of `record`: `lw v0, 16(a0)`, without a newline
+   or a zero after it.
 
    Answers a number and sets *written to how many bytes the line has, 0 for a refusal:
      record_len below 80           CALMUREDDA_SHORT_RECORD
-     else no reading's record      CALMUREDDA_NO_WORD; a refusal's record too, and one whose name is no mnemonic
+     else not a reading's record   CALMUREDDA_NO_WORD; a refusal's record too, and one whose name is not a mnemonic
      else no line                  CALMUREDDA_NO_LINE
      else longer than out_len      CALMUREDDA_NO_ROOM
      else                          CALMUREDDA_ACCEPTED, and the line is at the start of `out`
-   Bytes of `out` past the line stay as they are; after a refusal all do. CALMUREDDA_LINE_BYTES hold any line. `record` is only
-   read. The two slices must not overlap. */
+   Bytes of `out` past the line stay as they are; after a refusal all do. Any line fits in CALMUREDDA_LINE_BYTES.
+   `record` is only read. The two slices must not overlap. */
 uint8_t calmuredda_line(const uint8_t *record, size_t record_len, uint8_t *out, size_t out_len, size_t *written);
 
 enum { CALMUREDDA_LINE_BYTES = 120 };
@@ -146,19 +154,22 @@ uint8_t calmuredda_section_flags(const uint8_t *file, size_t file_len);
 /* The address of section n, from 0 on; 0 if the file is not good or has no such section. */
 uint64_t calmuredda_section_address(const uint8_t *file, size_t file_len, size_t n);
 
-/* Where the body of section n is: the *size bytes from file + *offset on. Answers CALMUREDDA_ACCEPTED; or, with *offset and *size 0,
-   CALMUREDDA_BAD_HEADER, then CALMUREDDA_BAD_RECORD, whichever section is bad, then CALMUREDDA_NO_SECTION. */
+/* Where the body of section n is: the *size bytes from file + *offset on. Answers CALMUREDDA_ACCEPTED; or, with *offset
+   and *size 0, CALMUREDDA_BAD_HEADER, then CALMUREDDA_BAD_RECORD, whichever section is bad, then
+   CALMUREDDA_NO_SECTION. */
 uint8_t calmuredda_section_body(const uint8_t *file, size_t file_len, size_t n, size_t *offset, size_t *size);
 
-/* A body is any run of bytes; its words are its first body_len / 4 * 4 bytes. Word n stands at address va + 4 * n, modulo 2^64. `big` and `wide`
-   are as for calmuredda_decode. */
+/* A body is any run of bytes; its words are its first body_len / 4 * 4 bytes. Word n is at address va + 4 * n, modulo
+   2^64. `flags` are those of a section file, as calmuredda_section_flags answers them: CALMUREDDA_BIG_ENDIAN and
+   CALMUREDDA_WIDE, added up. The other bits have no meaning and are ignored. */
 
 /* The block from word `index` on: the words up to the first one with a delay slot, and the word in that slot.
 
-   Answers CALMUREDDA_ACCEPTED, sets *kind to how the block ends and *words to how many words it has. With an index that the body does not have
-   it answers CALMUREDDA_NO_INDEX, and both are 0. A caller that walks a body block by block must skip the refused word after a block of
-   kind CALMUREDDA_END_REFUSED, and of CALMUREDDA_END_NO_SLOT where there is one. */
-uint8_t calmuredda_block(const uint8_t *body, size_t body_len, uint64_t va, uint8_t big, uint8_t wide, size_t index,
+   Answers CALMUREDDA_ACCEPTED, sets *kind to how the block ends and *words to how many words it has. With an index that
+   the body does not have it answers CALMUREDDA_NO_INDEX, and both are 0. A caller that walks a body block by block must
+   skip the refused word after a block of kind CALMUREDDA_END_REFUSED, and of CALMUREDDA_END_NO_SLOT where there
+   is one. */
+uint8_t calmuredda_block(const uint8_t *body, size_t body_len, uint64_t va, uint8_t flags, size_t index,
                          uint8_t *kind, size_t *words);
 
 enum {
@@ -168,14 +179,15 @@ enum {
     CALMUREDDA_END_BODY = 4       /* with the body */
 };
 
-/* Lists words from word `index` on, into `out` from byte `place` on: for each word a line of address (16 hex digits), space, word (8 hex digits), space,
-   the printed line or `refused` and the number, newline.
+/* Lists words from word `index` on, into `out` from byte `place` on: for each word a line of address (16 hex digits),
+   space, word (8 hex digits), space, the printed line or `refused` and the number, newline.
 
-   It writes the longest run of whole lines that fits. Answers CALMUREDDA_ACCEPTED, sets *words to how many words are listed and *bytes to
-   how many bytes that took; all other bytes of `out` stay as they are. With an index that the body does not have it answers
-   CALMUREDDA_NO_INDEX; then, if not one line fits or `place` is past the end, CALMUREDDA_NO_ROOM: nothing is written, and both numbers are 0.
-   The next page begins at index + *words. CALMUREDDA_PAGE_LINE_BYTES hold any line of a page. `body` and `out` must not overlap. */
-uint8_t calmuredda_page(const uint8_t *body, size_t body_len, uint64_t va, uint8_t big, uint8_t wide, size_t index,
+   It writes the longest run of whole lines that fits. Answers CALMUREDDA_ACCEPTED, sets *words to how many words are
+   listed and *bytes to how many bytes that took; all other bytes of `out` stay as they are. With an index that the body
+   does not have it answers CALMUREDDA_NO_INDEX; then, if not one line fits or `place` is past the end,
+   CALMUREDDA_NO_ROOM: nothing is written, and both numbers are 0. The next page begins at index + *words. Any line of a
+   page fits in CALMUREDDA_PAGE_LINE_BYTES. `body` and `out` must not overlap. */
+uint8_t calmuredda_page(const uint8_t *body, size_t body_len, uint64_t va, uint8_t flags, size_t index,
                         uint8_t *out, size_t out_len, size_t place, size_t *words, size_t *bytes);
 
 enum { CALMUREDDA_PAGE_LINE_BYTES = 147 };

@@ -2,8 +2,8 @@
 
        blocks FILE
 
-   A block runs to the first word with a delay slot and takes the slot too. Before the lines of each block stands how it ends. A refused word is in
-   no block; it is listed by itself. */
+   A block runs to the first word with a delay slot and takes the slot too. Before the lines of each block comes how it
+   ends. A refused word is in no block; it is listed by itself. */
 #include <inttypes.h>
 #include <stdio.h>
 #include <stdlib.h>
@@ -16,16 +16,17 @@ enum { FILE_BYTES = 65536, PAGE_BYTES = 4096, WORD_BYTES = 4, STATUS_USAGE = 2 }
 struct body {
     const uint8_t *bytes;
     uint64_t va;
-    uint8_t big, wide;
+    uint8_t flags;
 };
 
-/* Lists the words from `first` up to `end`, as many to a page as fit: the body that the library sees ends with the last of them. */
+/* Lists the words from `first` up to `end`, as many to a page as fit: the body that the library sees ends with the last
+   of them. */
 static void show_words(const struct body *body, size_t first, size_t end)
 {
     uint8_t page[PAGE_BYTES];
     while (first < end) {
         size_t words, bytes;
-        calmuredda_page(body->bytes, end * WORD_BYTES, body->va, body->big, body->wide, first, page, sizeof page, 0, &words, &bytes);
+        calmuredda_page(body->bytes, end * WORD_BYTES, body->va, body->flags, first, page, sizeof page, 0, &words, &bytes);
         fwrite(page, 1, bytes, stdout);
         first += words; /* never 0: the page has room for a line, and there is a word */
     }
@@ -47,7 +48,7 @@ static void show_body(const struct body *body, size_t size)
     for (size_t index = 0; index < count;) {
         uint8_t kind;
         size_t words;
-        calmuredda_block(body->bytes, size, body->va, body->big, body->wide, index, &kind, &words);
+        calmuredda_block(body->bytes, size, body->va, body->flags, index, &kind, &words);
         if (words > 0) {
             printf("block of %zu, ends %s\n", words, how_it_ends(kind));
             show_words(body, index, index + words);
@@ -63,11 +64,9 @@ static void show_body(const struct body *body, size_t size)
 /* The file is good, so that no section below its count is refused. */
 static void show_section(const uint8_t *file, size_t length, size_t n)
 {
-    uint8_t flags = calmuredda_section_flags(file, length);
     struct body body = {
         .va = calmuredda_section_address(file, length, n),
-        .big = flags & CALMUREDDA_BIG_ENDIAN,
-        .wide = flags & CALMUREDDA_WIDE,
+        .flags = calmuredda_section_flags(file, length),
     };
     size_t offset, size;
     calmuredda_section_body(file, length, n, &offset, &size);

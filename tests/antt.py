@@ -12,7 +12,7 @@ import re
 import sys
 
 # The six fields of a word: lowest bit and width.
-FIELDS = {"op": (26, 6), "rs": (21, 5), "rt": (16, 5), "rd": (11, 5), "sa": (6, 5), "fn": (0, 6)}
+FIELDS = {"op": (26, 6), "rs": (21, 5), "rt": (16, 5), "rd": (11, 5), "sa": (6, 5), "funct": (0, 6)}
 
 
 def demand(holds, name, message):
@@ -121,6 +121,8 @@ Definition = collections.namedtuple("Definition", "clauses scope")
 DEFINITION = re.compile(r"^(?:abbrev|unfoldable)(?: pub)? (\S+) : .*\n((?:\1 .*(?:\n(?:[ \t].*)?)*)+)", re.M)
 CLAUSE = re.compile(r"^\S+((?: \S+)*?) =\s+(.*(?:\n(?:[ \t].*)?)*)", re.M)
 USE = re.compile(r"^use Rattle·(\w+)(?:·specs)?\.specs\.(\w+)\.\{(.*)\}$", re.M)
+# The refusal numbers are named as `numbers.special`; a mnemonic kind such as `kind.add` stays a name.
+USE_NUMBERS = re.compile(r"^use Rattle·(refusal)\.specs\.(Numbers) as (\w+)$", re.M)
 # Where one of these is a parameter, it is a value that the argument must have.
 CASES = ("true", "false")
 
@@ -133,6 +135,9 @@ def scope_of(repository, path):
     for crate, file, names in USE.findall(text):
         other = scope_of(repository, f"{crate}/specs/{file}.antt")
         scope.update((name, other[name]) for name in names.split(", ") if name in other)
+    for crate, file, alias in USE_NUMBERS.findall(text):
+        other = scope_of(repository, f"{crate}/specs/{file}.antt")
+        scope.update((f"{alias}.{name}", other[name]) for name in other)
     for name, body in DEFINITION.findall(text):
         scope[name] = Definition([Clause(parameters.split(), body) for parameters, body in CLAUSE.findall(body)], scope)
     return scope

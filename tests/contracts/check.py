@@ -5,9 +5,11 @@
 
 - Each public function of a library has an `ensures` and no `requires`, and a theorem in crates/contracts/specs that its contract fixes its
   answer. (That the theorem is true is the prover's matter; that no function is forgotten is looked at here.)
-- No public contract, and no file of specs/ outside specs/Private, uses what stands in specs/Private.
-- docs/PROVED.md names two wrong answers or more for each public function, each of them kept as a must-fail edit, and leaves no edit out; the
-  sizes that it gives of definitions are those of the files. An edit changes code or a definition and never a proof.
+- No public contract, and no file of specs/ outside specs/Private, uses what stands in specs/Private; and no contract and no file of specs/
+  uses what stands in proofs/. (The modules that the toolchain makes of a contract may be named: crates/contracts/specs speaks of them.)
+- docs/PROVED.md names two wrong answers or more for each public function, each of them kept as an edit (in crates/CRATE/must-fail, which the
+  gate tries, or in tests/wrong_answers/CRATE, which is tried on demand), and leaves no edit out; the sizes that it gives of definitions are
+  those of the files. An edit changes code or a definition and never a proof.
 
 It reads text, of the layout that `rt fmt` gives it. It prints what was looked at, or what is wrong, with status 1.
 """
@@ -18,6 +20,9 @@ from pathlib import Path
 FUNCTION = re.compile(r"^(pub(?:\(crate\))? )?(?:extern \"C\" )?fn (\w+)(.*?)^\{$", re.M | re.S)
 MODULE = re.compile(r"^(pub )?mod (\w+);$", re.M)
 PRIVATE_USE = re.compile(r"^ghost use \S+\.specs\.Private\.[\w.]+\.\{(.*?)\};$", re.M)
+PROOFS_USE = re.compile(r"^(?:ghost )?use (Rattle·\S+?\.proofs\.[^\s{;]+)", re.M)
+# What the toolchain makes of a function's contract and of a declared type.
+OF_CONTRACT = re.compile(r"\.(?:Reads|Kinds|Statement)$|\.declared\.")
 WORD_OF_ANTT = re.compile(r"[^\s(){},.;⌜⌝]+")
 ROW_OF_FUNCTION = re.compile(r"^\| `(\w+)::(\w+)` \| ([\w/, ]+) \|$", re.M)
 NAMED_EDIT = re.compile(r"\b([a-z]\w*)/([a-z]\w*)\b")
@@ -32,11 +37,31 @@ def demand(holds, text):
         wrong.append(text)
 
 
+def edges(root):
+    """Each crate of crates.txt, in order, with the crates that it lists."""
+    lines = (line.split("#")[0] for line in (root / "crates.txt").read_text().splitlines())
+    pairs = (line.split(":") for line in lines if line.strip())
+    return {name.strip(): set(listed.split()) for name, listed in pairs}
+
+
 def libraries(root):
     """The crates that are libraries, in the order of crates.txt."""
-    lines = (line.split("#")[0] for line in (root / "crates.txt").read_text().splitlines())
-    names = [line.split(":")[0].strip() for line in lines if line.strip()]
-    return [name for name in names if (root / "crates" / name / "src/lib.rt").exists()]
+    return [name for name in edges(root) if (root / "crates" / name / "src/lib.rt").exists()]
+
+
+def check_edges(root):
+    """A crate is named by its code (`word::rs`) or by an import of its definitions or proofs (`Rattle.word.specs`)."""
+    all_edges = edges(root)
+    known = set(all_edges).union(*all_edges.values())
+    for crate, listed in all_edges.items():
+        folder = root / "crates" / crate
+        code = "".join(re.sub(r"//.*", "", path.read_text()) for path in folder.glob("src/**/*.rt"))
+        antt = "".join(path.read_text() for part in ("specs", "proofs") for path in folder.glob(f"{part}/**/*.antt"))
+        own = {path.stem for path in folder.glob("src/**/*.rt")}
+        named = (set(re.findall(r"(?<![\w:])(\w+)::", code)) - own | set(re.findall(r"Rattle·(\w+)", code + antt))) & known - {crate}
+        # What `io` and its kin stand on has to be listed with them.
+        named |= listed & {"libc"}
+        demand(named == listed, f"crates.txt: {crate} lists {sorted(listed - named)} in vain and leaves {sorted(named - listed)} out")
 
 
 def functions(path):
@@ -96,15 +121,39 @@ def check_private(root):
         demand(".specs.Private" not in path.read_text(), f"{path.relative_to(root)} uses what stands in specs/Private")
 
 
+def check_proofs_unused(root):
+    for path in [*root.glob("crates/*/src/**/*.rt"), *root.glob("crates/*/specs/**/*.antt")]:
+        for name in PROOFS_USE.findall(path.read_text()):
+            demand(OF_CONTRACT.search(name), f"{path.relative_to(root)} uses {name.rstrip('.')}, which stands in proofs/")
+
+
 # ── docs/PROVED.md ──
 
 
+def check_edit(root, crate, path):
+    """It changes code or a definition, and what it changes stands once in the file."""
+    name = path.relative_to(root)
+    lines = path.read_text().splitlines()
+    changed = [line.removeprefix("file: ") for line in lines if line.startswith("file: ")]
+    demand(changed and all(file.startswith(("src/", "specs/")) for file in changed), f"{name} changes a proof")
+    text = ""
+    for line in lines:
+        if line.startswith("file: "):
+            file = root / "crates" / crate / line.removeprefix("file: ")
+            text = file.read_text() if file.exists() else ""
+        elif line.startswith("old: "):
+            demand(text.count(line.removeprefix("old: ")) == 1, f"{name}: its old text does not stand once in its file")
+
+
 def kept_edits(root):
-    paths = list(root.glob("crates/*/must-fail/*.edit"))
-    for path in paths:
-        changed = re.findall(r"^file: (\S+)", path.read_text(), re.M)
-        demand(changed and all(file.startswith(("src/", "specs/")) for file in changed), f"{path.relative_to(root)} changes a proof")
-    return {f"{path.parts[-3]}/{path.stem}" for path in paths}
+    """Those of the gate and those on demand. No two of a crate have one name."""
+    of_gate = [(path.parts[-3], path) for path in root.glob("crates/*/must-fail/*.edit")]
+    on_demand = [(path.parts[-2], path) for path in root.glob("tests/wrong_answers/*/*.edit")]
+    names = [f"{crate}/{path.stem}" for crate, path in of_gate + on_demand]
+    for crate, path in of_gate + on_demand:
+        check_edit(root, crate, path)
+        demand(names.count(f"{crate}/{path.stem}") == 1, f"two edits are called {crate}/{path.stem}")
+    return set(names), len(of_gate)
 
 
 def check_edits(text, public, kept):
@@ -148,15 +197,17 @@ def main():
         if of_crate:
             check_collected(root, crate)
     check_private(root)
+    check_proofs_unused(root)
+    check_edges(root)
     text = (root / "docs/PROVED.md").read_text()
-    kept = kept_edits(root)
+    kept, of_gate = kept_edits(root)
     check_edits(text, public, kept)
     sizes = check_sizes(root, text)
     for line in wrong:
         print(line, file=sys.stderr)
     if wrong:
         sys.exit(1)
-    print(f"{len(public)} public functions, each with a theorem and {FEWEST_EDITS} wrong answers or more; {len(kept)} edits named; {sizes} sizes of definitions")
+    print(f"{len(public)} public functions, each with a theorem and {FEWEST_EDITS} wrong answers or more; {len(kept)} edits named, {of_gate} of them in the gate; {sizes} sizes of definitions")
 
 
 main()

@@ -54,7 +54,7 @@ def refusal(refusals, f):
 
 def matches(pattern, value):
     name, *argument = parts(pattern)
-    if name in ("read", "skip"):
+    if name in ("read", "zeros", "extra"):
         return True
     wanted = argument[0]
     if name == "low":
@@ -116,7 +116,7 @@ def effect(change, os):
         return 2, registers[0], 0, 0, values[1]
     if name == "setsUpper":
         return 1, registers[0], 0, 0, signed(values[1]) << 16
-    first = registers[0] if name == "loads" else 0
+    first = registers[0] if name == "memory" else 0
     return 3, first, registers[1], size[0], values[1]
 
 
@@ -129,10 +129,10 @@ def answer(tables, refusals, wide, va, word):
         return f"{question} 0 0 0 {0:016x} 0 00 00 0 {0:016x} 0" + f" 0 00 {0:016x}" * 4 + " -", 0
     row = rows[0]
     os = operands(row["form"], va, word, f)
-    control = row["control"]
+    control, change = row["manner"]["control"], row["manner"]["change"]
     flow = FLOWS.get(control, RET if os and os[0][1] == RA else JUMP)
     target = next((o[2] for o in os if o[0] == "Addr"), None)
-    e = effect(row["change"], os)
+    e = effect(change, os)
     line = f"{question} {flow} {control in MARKED:d} {target is not None:d} {target or 0:016x}"
     line += f" {e[0]} {e[1]:02x} {e[2]:02x} {e[3]} {e[4] & MASK64:016x} {len(os)}"
     for kind, register, value in os:

@@ -114,18 +114,18 @@ class Words:
 
 
 class Places:
-    """Sets of words under names, and which of them have a word. They are found by op and fn, since there are many questions."""
+    """Sets of words under names, and which of them have a word. They are found by op and funct, since there are many questions."""
 
     def __init__(self, named_sets):
         self.places = collections.defaultdict(list)
         for name, words in named_sets:
-            for place in itertools.product(words.allowed["op"], words.allowed["fn"]):
+            for place in itertools.product(words.allowed["op"], words.allowed["funct"]):
                 self.places[place].append((name, words))
 
     def names(self, word, wide):
         """In the order in which they were given, each once."""
         fields = fields_of(word)
-        near = self.places[fields["op"], fields["fn"]]
+        near = self.places[fields["op"], fields["funct"]]
         return list(dict.fromkeys(name for name, words in near if wide in words.flags and words.has(fields)))
 
 

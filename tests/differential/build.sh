@@ -1,5 +1,5 @@
 # Shared by tests/differential and tests/exhaustive: Rust programs for x86-64, the machine of the library, linked with it.
-# Read after tests/lib.sh.
+# Read after tools/lib.sh.
 # shellcheck shell=sh
 
 X86_TARGET=x86_64-unknown-linux-gnu

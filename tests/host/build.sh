@@ -1,5 +1,5 @@
 # Shared by tests/host, tests/pages and tests/threads: programs in C for x86-64, the machine of the library, linked with it, and mistakes
-# put between the two. Read after tests/lib.sh; need_x86_cc and need_archive come first.
+# put between the two. Read after tools/lib.sh; need_x86_cc and need_archive come first.
 # shellcheck shell=sh
 # shellcheck disable=SC2154
 

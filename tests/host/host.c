@@ -1,4 +1,4 @@
-/* Holds the library for C against the answers in the frames on standard input, which the driver of tests/oracle writes (its mode
+/* Compares the library for C with the answers in the frames on standard input, which the driver of tests/oracle writes (its mode
    `records`). */
 #define _GNU_SOURCE
 #include "../lent.h"

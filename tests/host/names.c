@@ -11,7 +11,7 @@
 enum { OFF = 0, ON = 1 };
 static const uint64_t ADDRESS = 0x80001000;
 
-/* A word's record has this value in so many bytes there. */
+/* A word's record has this value in this many bytes there. */
 struct named {
     uint32_t word;
     int at;

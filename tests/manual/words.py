@@ -114,14 +114,14 @@ def words_of_cell(columns, numbers, others):
 def words_of_cells(pages, random):
     """Every op with every number in each other column, and where a page goes by funct with every pair of funct and rs or sa:
     so that a page that the table lacks has words too."""
-    by_funct = {page.value >> COLUMNS["op"][0] for page in pages if page.mask & every_bit_of("fn")}
+    by_funct = {page.value >> COLUMNS["op"][0] for page in pages if page.mask & every_bit_of("funct")}
     for op in range(2 ** COLUMNS["op"][1]):
-        for column in ("rs", "rt", "rd", "sa", "fn"):
+        for column in ("rs", "rt", "rd", "sa", "funct"):
             for number in range(2 ** COLUMNS[column][1]):
                 yield from words_of_cell(("op", column), (op, number), [random.word() for _ in range(PER_CELL)])
-        pairs = itertools.product(("rs", "sa"), range(REGISTERS), range(2 ** COLUMNS["fn"][1])) if op in by_funct else ()
+        pairs = itertools.product(("rs", "sa"), range(REGISTERS), range(2 ** COLUMNS["funct"][1])) if op in by_funct else ()
         for column, number, funct in pairs:
-            yield from words_of_cell(("op", column, "fn"), (op, number, funct), (0, random.word()))
+            yield from words_of_cell(("op", column, "funct"), (op, number, funct), (0, random.word()))
 
 
 def all_words(pages):

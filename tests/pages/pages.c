@@ -1,5 +1,5 @@
-/* Holds the library's section files, blocks, pages and lines against the answers on standard input, a line each; README.md says what
-   stands in them. What a call writes to lies, in every second call, up to the end of what can be touched. */
+/* Compares the library's section files, blocks, pages and lines with the answers on standard input, a line each; README.md says what
+   is in them. What a call writes to lies, in every second call, up to the end of what can be touched. */
 #define _GNU_SOURCE
 #include "../lent.h"
 #include "../splitmix.h"
@@ -12,9 +12,9 @@ size_t calmuredda_section_count(const uint8_t *file, size_t file_len);
 uint8_t calmuredda_section_flags(const uint8_t *file, size_t file_len);
 uint64_t calmuredda_section_address(const uint8_t *file, size_t file_len, size_t n);
 uint8_t calmuredda_section_body(const uint8_t *file, size_t file_len, size_t n, size_t *offset, size_t *length);
-uint8_t calmuredda_block(const uint8_t *body, size_t body_len, uint64_t va, uint8_t big, uint8_t wide, size_t index, uint8_t *kind,
+uint8_t calmuredda_block(const uint8_t *body, size_t body_len, uint64_t va, uint8_t flags, size_t index, uint8_t *kind,
                          size_t *words);
-uint8_t calmuredda_page(const uint8_t *body, size_t body_len, uint64_t va, uint8_t big, uint8_t wide, size_t index, uint8_t *out,
+uint8_t calmuredda_page(const uint8_t *body, size_t body_len, uint64_t va, uint8_t flags, size_t index, uint8_t *out,
                         size_t out_len, size_t place, size_t *words, size_t *bytes);
 
 enum {
@@ -55,8 +55,8 @@ static const size_t huge[] = {
 };
 enum { HUGE = sizeof huge / sizeof huge[0] };
 
-/* A flag that is on is any number but 0. */
-static const uint8_t on_numbers[] = {1, 2, 128, 255};
+/* Bits of the flags that mean nothing: none of them, each by itself, and all. */
+static const uint8_t other_bits[] = {0, 4, 8, 16, 32, 64, 128, 252};
 
 static uint64_t complaints;
 static uint64_t blocks_asked, pages_asked, lines_asked, files_asked;
@@ -245,9 +245,10 @@ static void read_body(void)
     body.texts = 0;
 }
 
-static uint8_t flag(uint8_t flag_is_on)
+static uint8_t flags(void)
 {
-    return flag_is_on ? on_numbers[calls % sizeof on_numbers] : 0;
+    uint8_t meant = (uint8_t)((body.big ? CALMUREDDA_BIG_ENDIAN : 0) | (body.wide ? CALMUREDDA_WIDE : 0));
+    return meant | other_bits[calls % sizeof other_bits];
 }
 
 /* ── blocks ── */
@@ -263,8 +264,7 @@ static void check_block(size_t index, struct answer wanted)
     for (int twice = 0; twice < 2; twice++) {
         uint8_t kind = 99;
         size_t words = 99;
-        uint8_t number = calmuredda_block(lend(body.bytes, body.length), body.length, body.va, flag(body.big), flag(body.wide), index,
-                                          &kind, &words);
+        uint8_t number = calmuredda_block(lend(body.bytes, body.length), body.length, body.va, flags(), index, &kind, &words);
         calls++;
         same("a block's number is", number, wanted.number);
         same("a block's end kind is", kind, wanted.kind);
@@ -329,8 +329,8 @@ static void check_page(size_t index, size_t size, size_t place)
     uint8_t wanted = wanted_page(index, size, place, &wanted_words, &wanted_bytes);
     size_t words = 99, bytes = 99;
     struct buffer buffer = lend_buffer(size);
-    uint8_t number = calmuredda_page(lend(body.bytes, body.length), body.length, body.va, flag(body.big), flag(body.wide), index,
-                                     buffer.bytes, size, place, &words, &bytes);
+    uint8_t number = calmuredda_page(lend(body.bytes, body.length), body.length, body.va, flags(), index, buffer.bytes,
+                                     size, place, &words, &bytes);
     same("a page's number is", number, wanted);
     same("a page's words are", words, wanted_words);
     same("a page's bytes are", bytes, wanted_bytes);
@@ -413,7 +413,7 @@ static void text_line(void)
     }
 }
 
-/* `page`: an answer of the model, against which the rule above is held, before the library is. */
+/* `page`: an answer of the model, with which the rule above is compared, before the library is. */
 static void page_line(void)
 {
     size_t index = number_column(10), size = number_column(10), place = number_column(10);
@@ -489,7 +489,7 @@ static void word_line(void)
     uint8_t bytes[WORD_BYTES];
     memcpy(bytes, &word, sizeof bytes);
     same("the decoder's number is", calmuredda_decode(bytes, sizeof bytes, va, 0, wide, record, sizeof record), number);
-    /* A refusal's record is no reading's. */
+    /* A refusal's record is not a reading's. */
     check_rooms(record, number == 0 ? 0 : NO_READING, last_column());
 }
 

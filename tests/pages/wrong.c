@@ -9,7 +9,7 @@
 /* `run` counts up to the last. */
 enum {
     BLOCK_INDEX_WRAPS = 1,     /* four times the index is taken modulo 2^64 */
-    BLOCK_BIG_IS_ONE,          /* other numbers than 1 are off */
+    BLOCK_BIG_IS_ODD_BELOW_4,  /* off where a bit without a meaning is set */
     BLOCK_SLOT_COUNTED,        /* that which is refused or absent */
     BLOCK_REFUSED_COUNTED,
     BLOCK_KIND_OF_REFUSAL,     /* not 0 where the index is refused */
@@ -23,7 +23,7 @@ enum {
     PAGE_WRITES_BEFORE_PLACE,
     PAGE_WRITES_ON_REFUSAL,
     PAGE_SPACES_BELOW,         /* a true first line, mere spaces in the second */
-    PAGE_WIDE_IS_ONE,
+    PAGE_WIDE_FROM_2_ON,       /* on for any number from 2 on */
     PAGE_ADDRESS_OF_32_BITS,
     PAGE_BYTES_OF_BUFFER,      /* the place is counted too */
     PAGE_READS_AFTER_BODY,
@@ -78,7 +78,7 @@ static size_t wrapped(size_t number, int bits)
 
 /* ── blocks and pages ── */
 
-uint8_t __wrap_calmuredda_block(const uint8_t *body, size_t body_len, uint64_t va, uint8_t big, uint8_t wide, size_t index,
+uint8_t __wrap_calmuredda_block(const uint8_t *body, size_t body_len, uint64_t va, uint8_t flags, size_t index,
                                 uint8_t *kind, size_t *words)
 {
     if (is(BLOCK_READS_AFTER_BODY)) {
@@ -88,8 +88,8 @@ uint8_t __wrap_calmuredda_block(const uint8_t *body, size_t body_len, uint64_t v
         body_len -= WORD_BYTES;
     }
     index = is(BLOCK_INDEX_WRAPS) ? wrapped(index, 2) : index;
-    big = is(BLOCK_BIG_IS_ONE) ? big == 1 : big;
-    uint8_t number = __real_calmuredda_block(body, body_len, va, big, wide, index, kind, words);
+    flags = is(BLOCK_BIG_IS_ODD_BELOW_4) && flags > 3 ? flags & CALMUREDDA_WIDE : flags;
+    uint8_t number = __real_calmuredda_block(body, body_len, va, flags, index, kind, words);
     *words += (is(BLOCK_SLOT_COUNTED) && *kind == CALMUREDDA_END_NO_SLOT) || (is(BLOCK_REFUSED_COUNTED) && *kind == CALMUREDDA_END_REFUSED);
     *kind += is(BLOCK_KIND_OF_REFUSAL) && number != 0;
     return number;
@@ -110,7 +110,7 @@ static void spoil(uint8_t *out, size_t out_len, size_t place, size_t words, size
     }
 }
 
-uint8_t __wrap_calmuredda_page(const uint8_t *body, size_t body_len, uint64_t va, uint8_t big, uint8_t wide, size_t index,
+uint8_t __wrap_calmuredda_page(const uint8_t *body, size_t body_len, uint64_t va, uint8_t flags, size_t index,
                                uint8_t *out, size_t out_len, size_t place, size_t *words, size_t *bytes)
 {
     if (is(PAGE_READS_AFTER_BODY)) {
@@ -125,10 +125,10 @@ uint8_t __wrap_calmuredda_page(const uint8_t *body, size_t body_len, uint64_t va
     }
     index = is(PAGE_INDEX_WRAPS) ? wrapped(index, 2) : index;
     place = is(PAGE_PLACE_WRAPS) ? wrapped(place, 1) : place;
-    wide = is(PAGE_WIDE_IS_ONE) ? wide == 1 : wide;
+    flags |= is(PAGE_WIDE_FROM_2_ON) && flags >= CALMUREDDA_WIDE ? CALMUREDDA_WIDE : 0;
     va = is(PAGE_ADDRESS_OF_32_BITS) ? (uint32_t)va : va;
     out_len -= is(PAGE_LAST_BYTE_FREE) && out_len > 0;
-    uint8_t number = __real_calmuredda_page(body, body_len, va, big, wide, index, out, out_len, place, words, bytes);
+    uint8_t number = __real_calmuredda_page(body, body_len, va, flags, index, out, out_len, place, words, bytes);
     if (number == 0) {
         spoil(out, out_len, place, *words, *bytes);
         *bytes += is(PAGE_BYTES_OF_BUFFER) ? place : 0;

@@ -1,6 +1,6 @@
 """The section files that `sweep` and the library are tried on: `cases(root)` gives name and bytes of each, the same on every run.
 
-Files are made here from their fields, good or not, since tests/make_section makes good ones only.
+Files are made here from their fields, good or not, since tools/make_section makes good ones only.
 """
 import struct
 from pathlib import Path

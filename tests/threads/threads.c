@@ -199,13 +199,19 @@ static size_t any_index(struct own *own, struct slice part)
     return below(own, part.length / WORD_BYTES + 2);
 }
 
+/* A section file's flags. */
+static uint8_t flags_of(struct view view)
+{
+    return (uint8_t)((view.big ? CALMUREDDA_BIG_ENDIAN : 0) | (view.wide ? CALMUREDDA_WIDE : 0));
+}
+
 static void ask_block(struct own *own)
 {
     struct view view = any_view(own);
     struct slice part = any_part(own, LONGEST_PART);
     uint8_t kind;
     size_t words;
-    add(own, calmuredda_block(part.bytes, part.length, view.va, view.big, view.wide, any_index(own, part), &kind, &words));
+    add(own, calmuredda_block(part.bytes, part.length, view.va, flags_of(view), any_index(own, part), &kind, &words));
     add(own, kind);
     add(own, words);
 }
@@ -218,7 +224,7 @@ static void ask_page(struct own *own)
     size_t room = below(own, LONGEST_ROOM + 1);
     size_t place = below(own, room / 8 + 2);
     size_t words, bytes;
-    add(own, calmuredda_page(part.bytes, part.length, view.va, view.big, view.wide, index, any_out(own), room, place, &words, &bytes));
+    add(own, calmuredda_page(part.bytes, part.length, view.va, flags_of(view), index, any_out(own), room, place, &words, &bytes));
     add(own, words);
     add(own, bytes);
     add_out(own);

@@ -90,18 +90,18 @@ uint8_t __wrap_calmuredda_section_body(const uint8_t *file, size_t file_len, siz
     return number;
 }
 
-uint8_t __wrap_calmuredda_block(const uint8_t *body, size_t body_len, uint64_t va, uint8_t big, uint8_t wide, size_t index,
+uint8_t __wrap_calmuredda_block(const uint8_t *body, size_t body_len, uint64_t va, uint8_t flags, size_t index,
                                 uint8_t *kind, size_t *words)
 {
-    uint8_t number = __real_calmuredda_block(body, body_len, va, big, wide, index, kind, words);
+    uint8_t number = __real_calmuredda_block(body, body_len, va, flags, index, kind, words);
     *words = through_number(BLOCK, *words);
     return number;
 }
 
-uint8_t __wrap_calmuredda_page(const uint8_t *body, size_t body_len, uint64_t va, uint8_t big, uint8_t wide, size_t index, uint8_t *out,
+uint8_t __wrap_calmuredda_page(const uint8_t *body, size_t body_len, uint64_t va, uint8_t flags, size_t index, uint8_t *out,
                                size_t out_len, size_t place, size_t *words, size_t *bytes)
 {
-    uint8_t number = __real_calmuredda_page(body, body_len, va, big, wide, index, out, out_len, place, words, bytes);
+    uint8_t number = __real_calmuredda_page(body, body_len, va, flags, index, out, out_len, place, words, bytes);
     through_bytes(PAGE, out, out_len);
     return number;
 }

@@ -1,7 +1,7 @@
-// Decodes the words of standard input and adds parts of the answers up, for bench/run to count instructions.
-// The input: a byte that says whether to decode, a byte that is the width flag, two that are not looked at, then the words,
-// little-endian. Where it does not decode it adds the words themselves up: that is what the loop costs without the decoder.
-// Stands on `decode` and the kit's `io`.
+// Decodes the words of standard input and adds parts of the answers up, for bench/run to count instructions. The input:
+// a byte that says whether to decode, a byte that is the width flag, two that are ignored, then the words,
+// little-endian. Where it does not decode it adds up the words themselves, which is what the loop costs without the
+// decoder. Depends on `decode` and the kit's `io`.
 use reading::Decoded;
 
 struct State {

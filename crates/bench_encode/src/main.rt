@@ -1,7 +1,7 @@
-// Decodes the words of standard input and encodes their readings again, for bench/run to count instructions.
-// The input is that of bench_decode: a byte that says whether to encode, a byte that is the width flag, two that are not looked at, then
-// the words, little-endian. Where it does not encode it decodes all the same: that is what the loop costs without the encoder.
-// Stands on `decode`, `encode` and the kit's `io`.
+// Decodes the words of standard input and encodes their readings again, for bench/run to count instructions. The input
+// is that of bench_decode: a byte that says whether to encode, a byte that is the width flag, two that are ignored,
+// then the words, little-endian. Where it does not encode it only decodes, which is what the loop costs without the
+// encoder. Depends on `decode`, `encode` and the kit's `io`.
 use reading::Encoded;
 use reading::Insn;
 
@@ -82,8 +82,8 @@ fn add_all(start: State) -> State {
     s
 }
 
-// The head is decoded and encoded too, as a word or as the blank reading: with two callers `decode_word` and `encode` stay functions of
-// their own, as in a library.
+// The head is decoded and encoded too, as a word or as the blank reading: with two callers `decode_word` and `encode`
+// stay functions of their own, as in a library.
 fn main() {
     let mut head = [0u8; 4];
     io::read_full(0, &mut head);

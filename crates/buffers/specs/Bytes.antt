@@ -1,5 +1,4 @@
 -- Bytes that a caller lends: what a writer leaves of them, and a number as bytes.
--- Assumes nothing.
 use Prim.Native.Nat.{ℕ, zero, suc, _+_, _*_, _/_, _%_}
 use mathlib.Core.Bool.{cond}
 use mathlib.Core.List.{List, [], _∷_, _++_}

@@ -1,4 +1,4 @@
-// Writing into bytes that a caller lends, and numbers as little-endian bytes. Stands on nothing.
+// Writing into bytes that a caller lends, and numbers as little-endian bytes. Depends on no other crate.
 // Every function takes any place: where there is no room, nothing is written, and 0 is read.
 ghost use mathlib.Core.Path.{_≡_};
 ghost use Prim.Native.Nat.{_+_, _≤_, _<_};
@@ -89,7 +89,7 @@ pub fn get4(src: &[u8], at: usize) -> u32
     0
 }
 
-// Its own bytes are then those: a byte is below 256, which the list alone does not say.
+// The bytes of the number are then those that were read: a byte is below 256, which the list alone does not say.
 pub fn get8(src: &[u8], at: usize) -> u64
     ensures { λ r. ⌜ r ≡ numAt 8 at (now (src .entry)) ⌝ }
     ensures { λ r. ⌜ (at + 8 ≤ length (now (src .entry)) → lowBytes 8 r ≡ take 8 (drop at (now (src .entry)))) ⌝ }
@@ -102,8 +102,8 @@ pub fn get8(src: &[u8], at: usize) -> u64
     0
 }
 
-// A byte in eight bytes' room.
-fn wide(x: u8) -> u64
+// A byte as a number of 64 bits.
+fn widened(x: u8) -> u64
     ensures { λ r. ⌜ (r ≡ x) × (r < 256) ⌝ }
 {
     x as u64
@@ -115,7 +115,7 @@ fn number2(b: &[u8], at: usize) -> u64
     requires { ⌜ at + 2 ≤ length (now b) ⌝ }
     ensures { λ r. ⌜ Stands 2 at (now (b .entry)) r ⌝ }
 {
-    wide(b[at]) + 0x100 * wide(b[at + 1])
+    widened(b[at]) + 0x100 * widened(b[at + 1])
 }
 
 fn number4(b: &[u8], at: usize) -> u64

@@ -1,5 +1,4 @@
 -- From what the encoder answers to the reading in a record, to what the record gets.
--- Assumes nothing.
 use Prim.Native.Nat.{ℕ, _≤_}
 use mathlib.Core.Path.{_≡_, refl, sym, ap, _∙_}
 use mathlib.Core.Bool.{Bool, true, false, cond}
@@ -11,8 +10,8 @@ use borrow.Author.Tests.{ltb-true, ltb-false}
 use Rattle.reading.specs.declared.Insn.{Insn}
 use Rattle.reading.specs.declared.Decoded.{Decoded}
 use Rattle.reading.specs.declared.Encoded.{Encoded}
-use Rattle.reading.specs.Reading.{refusedOf}
-use Rattle.classes.specs.Decoded.{acceptedAs, decodedOf}
+use Rattle.reading.specs.Reading.{refusedOf, acceptedAs}
+use Rattle.classes.specs.Decoded.{decodedOf}
 use Rattle.inverse.specs.Encoded as encoded
 use Rattle.inverse.specs.Encoded.{Has, Encodes}
 use Rattle.record.specs.Record.{size, recordOf}

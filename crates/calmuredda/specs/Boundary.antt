@@ -1,21 +1,20 @@
--- WHAT THE HOST PROGRAM GETS, for every input: the answer, and every byte of the buffer that it lent. Crate `record` says what the packer
--- answers and leaves (packNumber, packed), crate `decode` what bytes mean (decodedIn), crate `line` what printing gives, crates `section` and
--- `listing` what files, blocks and pages are.
--- Assumes nothing.
+-- WHAT THE HOST PROGRAM GETS, for every input: the answer, and every byte of the buffer that it lent. Crate `record`
+-- says what the packer answers and leaves (packNumber, packed), crate `decode` what bytes mean (decodedIn), crate
+-- `line` what printing gives, crates `section`, `body`, `blocks` and `pages` what files, bodies, blocks and pages are.
 use Prim.Native.Nat.{ℕ, _+_, _*_, _^_, _<_, _≤_}
 use mathlib.Core.Path.{_≡_}
 use mathlib.Core.Bool.{Bool, not, cond}
 use mathlib.Core.List.{List, []}
 use lib.Dec.{eqb}
 use lib.ListN.{length, take}
+use Rattle.refusal.specs.Numbers as refusal
 use Rattle.word.specs.Word.{words}
 use Rattle.reading.specs.declared.Decoded.{Decoded}
 use Rattle.classes.specs.Decoded.{decodedOf}
 use Rattle.decode.specs.Bytes.{decodedIn}
 use Rattle.record.specs.Record.{size, recordOf}
 use Rattle.record.specs.Unpacked.{unpacked}
-use Rattle.line.specs.Line.{printNumber, printed}
-use Rattle.listing.specs.declared.View.{View}
+use Rattle.line.specs.Line.{plain, printNumber, printed}
 
 -- a flag: 0 is off, any other number on
 abbrev pub on : ℕ → Bool
@@ -35,20 +34,18 @@ pub record HasRecord (l : List ℕ) (va : ℕ) (wide : Bool) (w : ℕ) : Type 0 
   pub accepted : (decodedOf w va wide) .number ≡ 0
   pub packed : recordOf (decodedOf w va wide) ≡ take size l
 
--- number 16 and word 0 for fewer than 80 bytes; else number 0 and the smallest word that has the record, or number 9 and word 0 if no
--- word has it
+-- short-record and word 0 for fewer than 80 bytes; else number 0 and the smallest word that has the record, or no-word
+-- and word 0 if no word has it
 pub data EncodesRecord (l : List ℕ) (va : ℕ) (wide : Bool) (r : ℕ) : Type 0 where
-  short : length l < size → r ≡ answer 16 0 → EncodesRecord l va wide r
-  smallest : size ≤ length l → (w : ℕ) → r ≡ answer 0 w → HasRecord l va wide w → ((v : ℕ) → HasRecord l va wide v → w ≤ v) → EncodesRecord l va wide r
-  no-word : size ≤ length l → r ≡ answer 9 0 → ((v : ℕ) → ¬ HasRecord l va wide v) → EncodesRecord l va wide r
+  short : length l < size → r ≡ answer refusal.short-record 0 → EncodesRecord l va wide r
+  smallest : size ≤ length l → (w : ℕ) → r ≡ answer 0 w → HasRecord l va wide w →
+      ((v : ℕ) → HasRecord l va wide v → w ≤ v) → EncodesRecord l va wide r
+  no-word : size ≤ length l → r ≡ answer refusal.no-word 0 → ((v : ℕ) → ¬ HasRecord l va wide v) →
+      EncodesRecord l va wide r
 
--- the line of a record's reading, with so much room: what unpacking refuses, 16 or 9, comes first
+-- the line of a record's reading, with this much room: what unpacking refuses comes first
 abbrev pub lineNumber : List ℕ → ℕ → ℕ
-lineNumber l room = cond (eqb (unpacked l .number) 0) (printNumber (unpacked l .insn) room) (unpacked l .number)
+lineNumber l room = cond (eqb (unpacked l .number) 0) (printNumber plain (unpacked l .insn) room) (unpacked l .number)
 
 abbrev pub lineBytes : List ℕ → ℕ → List ℕ
-lineBytes l room = cond (eqb (unpacked l .number) 0) (printed (unpacked l .insn) room) []
-
--- how a body's words are read
-abbrev pub viewOf : ℕ → ℕ → ℕ → View
-viewOf va big wide = record { va = va; «big_endian» = on big; bits64 = on wide }
+lineBytes l room = cond (eqb (unpacked l .number) 0) (printed plain (unpacked l .insn) room) []

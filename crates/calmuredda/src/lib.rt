@@ -1,21 +1,23 @@
-// The boundary for programs in C: decoding and encoding through byte records, printed lines, section files, blocks and pages. Every function
-// that C may call is here, and nothing else; include/calmuredda.h describes them for C. `rt staticlib calmuredda` makes libcalmuredda.a of this
-// crate. Stands on `decode`, `encode`, `record`, `line`, `section` and `listing`; specs/Boundary.antt says what the answers mean. Where an answer
-// is more than one number, C lends a place for each of the others, which is written whatever the answer is.
+// The boundary for programs in C: decoding and encoding through byte records, printed lines, section files, blocks and
+// pages. Every function that C may call is here, and nothing else; include/calmuredda.h describes them for C.
+// `rt staticlib calmuredda` makes libcalmuredda.a of this crate. specs/Boundary.antt says what the answers mean. Where
+// an answer is more than one number, C lends a place for each of the others, which is written whatever the answer is.
 ghost use mathlib.Core.Path.{_≡_};
 ghost use lib.ListN.{length};
 ghost use Rattle.buffers.specs.Bytes.{over, overAt};
 ghost use Rattle.record.specs.Record.{packNumber, packed};
-ghost use Rattle.section.specs.Section.{checked, refusalOf, countOf, flagsOf, addressOf, startOf, sizeOf};
-ghost use Rattle.listing.specs.Block.{blockOf};
-ghost use Rattle.listing.specs.Page.{pageNumber, pageWords, pageBytes};
-ghost use Rattle.calmuredda.specs.Boundary.{on, decodedFor, answer, EncodesRecord, viewOf, lineNumber, lineBytes};
-use listing::View;
+ghost use Rattle.section.specs.Section.{checked, refusalOf, countOf, flagsOf, addressOf, startOf, lengthOf};
+ghost use Rattle.line.specs.Line.{plain};
+ghost use Rattle.body.specs.Body.{viewOf};
+ghost use Rattle.blocks.specs.Block.{blockOf};
+ghost use Rattle.pages.specs.Page.{pageNumber, pageWords, pageBytes};
+ghost use Rattle.calmuredda.specs.Boundary.{on, decodedFor, answer, EncodesRecord, lineNumber, lineBytes};
 
 // Where the number stands in the encoder's answer.
 const NUMBERS: u64 = 0x1_0000_0000;
 
-// Decodes the word in the first four bytes, and packs what that gives into the first 80 bytes of `record`. Answers with the number.
+// Decodes the word in the first four bytes, and packs what that gives into the first 80 bytes of `record`. Answers with
+// the number.
 #[no_mangle]
 pub extern "C" fn calmuredda_decode(
     bytes: &[u8],
@@ -24,14 +26,16 @@ pub extern "C" fn calmuredda_decode(
     wide: u8,
     record: &mut [u8],
 ) -> u8
-    ensures { λ r. ⌜ r ≡ packNumber (decodedFor (now (bytes .entry)) va big wide) (length (now («record» .entry))) ⌝ }
-    ensures { λ _. ⌜ now («record» .exit) ≡ packed (decodedFor (now (bytes .entry)) va big wide) (now («record» .entry)) ⌝ }
+    ensures { λ r. ⌜
+        r ≡ packNumber (decodedFor (now (bytes .entry)) va big wide) (length (now («record» .entry))) ⌝ }
+    ensures { λ _. ⌜
+        now («record» .exit) ≡ packed (decodedFor (now (bytes .entry)) va big wide) (now («record» .entry)) ⌝ }
 {
     record::pack(decode::decode(bytes, va, big != 0, wide != 0), record)
 }
 
-// The smallest word whose record at this address and flag is the one in the first 80 bytes, below the number: 16 for fewer bytes, 9 if there
-// is no such word.
+// The smallest word whose record at this address and flag is the one in the first 80 bytes, below the number: 16 for
+// fewer bytes, 9 if no word has it.
 #[no_mangle]
 pub extern "C" fn calmuredda_encode(record: &[u8], va: u64, wide: u8) -> u64
     ensures { λ r. ⌜ EncodesRecord (now («record» .entry)) va (on wide) r ⌝ }
@@ -51,15 +55,17 @@ fn both(number: u8, word: u32) -> u64
     number as u64 * NUMBERS + word as u64
 }
 
-// ── the listing ──
+// ── lines, section files, blocks and pages ──
 
-// The line of the reading whose record is in the first 80 bytes, to the start of `out`. Answers with the number: 16 for fewer bytes, 9 if they
-// are no reading's record, 10, 11; `written` is how many bytes the line has.
+// The line of the reading whose record is in the first 80 bytes, to the start of `out`. Answers with the number: 16 for
+// fewer bytes, 9 if they are not the record of any reading, 10, 11; `written` is how many bytes the line has.
 #[no_mangle]
 pub extern "C" fn calmuredda_line(record: &[u8], out: &mut [u8], written: &mut usize) -> u8
     ensures { λ r. ⌜ r ≡ lineNumber (now («record» .entry)) (length (now (out .entry))) ⌝ }
-    ensures { λ _. ⌜ now (written .exit) ≡ length (lineBytes (now («record» .entry)) (length (now (out .entry)))) ⌝ }
-    ensures { λ _. ⌜ now (out .exit) ≡ over (lineBytes (now («record» .entry)) (length (now (out .entry)))) (now (out .entry)) ⌝ }
+    ensures { λ _. ⌜
+        now (written .exit) ≡ length (lineBytes (now («record» .entry)) (length (now (out .entry)))) ⌝ }
+    ensures { λ _. ⌜
+        now (out .exit) ≡ over (lineBytes (now («record» .entry)) (length (now (out .entry)))) (now (out .entry)) ⌝ }
 {
     let d = record::unpack(record);
     if d.number != 0 {
@@ -114,7 +120,7 @@ pub extern "C" fn calmuredda_section_body(
 ) -> u8
     ensures { λ r. ⌜ r ≡ refusalOf (now (file .entry)) n ⌝ }
     ensures { λ _. ⌜ now (offset .exit) ≡ startOf (now (file .entry)) n ⌝ }
-    ensures { λ _. ⌜ now (size .exit) ≡ sizeOf (now (file .entry)) n ⌝ }
+    ensures { λ _. ⌜ now (size .exit) ≡ lengthOf (now (file .entry)) n ⌝ }
 {
     *offset = section::start(file, n);
     *size = section::body(file, n).len();
@@ -126,52 +132,49 @@ pub extern "C" fn calmuredda_section_body(
 pub extern "C" fn calmuredda_block(
     body: &[u8],
     va: u64,
-    big: u8,
-    wide: u8,
+    flags: u8,
     index: usize,
     kind: &mut u8,
     words: &mut usize,
 ) -> u8
-    ensures { λ r. ⌜ r ≡ blockOf (viewOf va big wide) (now (body .entry)) index .number ⌝ }
-    ensures { λ _. ⌜ now (kind .exit) ≡ blockOf (viewOf va big wide) (now (body .entry)) index .kind ⌝ }
-    ensures { λ _. ⌜ now (words .exit) ≡ blockOf (viewOf va big wide) (now (body .entry)) index .words ⌝ }
+    ensures { λ r. ⌜ r ≡ blockOf (viewOf va flags) (now (body .entry)) index .number ⌝ }
+    ensures { λ _. ⌜ now (kind .exit) ≡ blockOf (viewOf va flags) (now (body .entry)) index .kind ⌝ }
+    ensures { λ _. ⌜ now (words .exit) ≡ blockOf (viewOf va flags) (now (body .entry)) index .words ⌝ }
 {
-    let b = listing::block(body, view(va, big, wide), index);
+    let b = blocks::block(body, body::view_of(va, flags), index);
     *kind = b.kind;
     *words = b.words;
     b.number
 }
 
-// The page of a body from word `index` on, into `out` from `place` on: 0, 15 or 11; `words` is how many words it has, `bytes` how many bytes.
+// The page of a body from word `index` on, into `out` from `place` on: 0, 15 or 11; `words` is how many words it has,
+// `bytes` how many bytes.
 #[no_mangle]
 pub extern "C" fn calmuredda_page(
     body: &[u8],
     va: u64,
-    big: u8,
-    wide: u8,
+    flags: u8,
     index: usize,
     out: &mut [u8],
     place: usize,
     words: &mut usize,
     bytes: &mut usize,
 ) -> u8
-    ensures { λ r. ⌜ r ≡ pageNumber (viewOf va big wide) (now (body .entry)) index (length (now (out .entry))) place ⌝ }
-    ensures { λ _. ⌜ now (words .exit) ≡ pageWords (viewOf va big wide) (now (body .entry)) index (length (now (out .entry))) place ⌝ }
-    ensures { λ _. ⌜ now (bytes .exit) ≡ length (pageBytes (viewOf va big wide) (now (body .entry)) index (length (now (out .entry))) place) ⌝ }
-    ensures { λ _. ⌜ now (out .exit) ≡ overAt place (pageBytes (viewOf va big wide) (now (body .entry)) index (length (now (out .entry))) place) (now (out .entry)) ⌝ }
+    ensures { λ r. ⌜
+        r ≡ pageNumber plain (viewOf va flags) (now (body .entry)) index (length (now (out .entry))) place ⌝ }
+    ensures { λ _. ⌜
+        now (words .exit) ≡
+        pageWords plain (viewOf va flags) (now (body .entry)) index (length (now (out .entry))) place ⌝ }
+    ensures { λ _. ⌜
+        now (bytes .exit) ≡
+        length (pageBytes plain (viewOf va flags) (now (body .entry)) index (length (now (out .entry))) place) ⌝ }
+    ensures { λ _. ⌜
+        now (out .exit) ≡
+        overAt place (pageBytes plain (viewOf va flags) (now (body .entry)) index (length (now (out .entry))) place)
+        (now (out .entry)) ⌝ }
 {
-    let p = listing::page(body, view(va, big, wide), index, out, place);
+    let p = pages::page(body, body::view_of(va, flags), index, out, place);
     *words = p.words;
     *bytes = p.bytes;
     p.number
-}
-
-fn view(va: u64, big: u8, wide: u8) -> View
-    ensures { λ r. ⌜ r ≡ viewOf va big wide ⌝ }
-{
-    View {
-        va,
-        big_endian: big != 0,
-        bits64: wide != 0,
-    }
 }

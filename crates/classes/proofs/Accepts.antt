@@ -1,5 +1,4 @@
 -- The acceptance table and the table of classes agree: the walk of Cover, computed, and what follows from it.
--- Assumes nothing.
 use Prim.Native.Nat.{ℕ, _+_, _≤_}
 use mathlib.Core.Path.{_≡_, refl, sym, ap}
 use mathlib.Core.Bool.{Bool, true, false, cond, _&&_}
@@ -12,18 +11,20 @@ use Rattle.word.proofs.Fields.{fields-fit}
 use Rattle.reading.specs.declared.Insn.{Insn}
 use Rattle.reading.specs.declared.Decoded.{Decoded}
 use Rattle.reading.specs.Kind.{from}
-use Rattle.reading.specs.Reading.{refusedOf}
+use Rattle.reading.specs.Reading.{refusedOf, acceptedAs}
 use Rattle.classes.specs.Row.{Row}
 use Rattle.classes.specs.Meaning.{match, takes, find, meaning}
 use Rattle.classes.specs.Table.{common, byWidth, table}
-use Rattle.classes.specs.Refusals.{elem, Refusal, meets, refusal, refusals}
-use Rattle.classes.specs.Decoded.{readingBy, acceptedAs, decodedBy, decodedOf}
+use Rattle.laws.specs.Lists.{elem}
+use Rattle.classes.specs.Refusals.{Refusal, meets, refusal, refusals}
+use Rattle.classes.specs.Decoded.{readingBy, decodedBy, decodedOf}
 use Rattle.classes.specs.Theorems.{taking, Acceptance}
-use Rattle.classes.proofs.Tests.{and-l, and-r}
+use Rattle.laws.proofs.Tests.{and-l, and-r}
 use Rattle.classes.proofs.Find.{found-taking}
-use Rattle.classes.proofs.Walk.{spread, walk, sift, freeIn, markIn}
+use Rattle.laws.proofs.Walk.{spread, walk, sift, freeIn, markIn}
 use Rattle.classes.proofs.Cover.{ones}
-use Rattle.classes.proofs.Boxes.{bit, guardOf, boxesBy, boxes, testBox, testsBox, refusedBoxes, refusing, exact, taken-or-refused}
+use Rattle.classes.proofs.Boxes.{bit, guardOf, boxesBy, boxes, testBox, testsBox, refusedBoxes, refusing, exact}
+use Rattle.classes.proofs.Boxes.{taken-or-refused}
 
 -- ── any two tables ──
 

@@ -1,18 +1,19 @@
 -- Rows and refusals as boxes: a row that leaves out words 0 and 0x40 is four, any other one; an entry of the acceptance table is one.
--- Assumes nothing.
 use Prim.Native.Nat.{ℕ, _+_}
 use mathlib.Core.Path.{_≡_, refl, sym, _∙_, ap, ap₂}
 use mathlib.Core.Bool.{Bool, true, false, not, cond, _&&_, and-true}
 use mathlib.Core.List.{List, [], _∷_, _++_}
 use mathlib.Core.Option.{none, some}
 use lib.Dec.{T, eqb, leb}
-use Rattle.word.specs.Word.{Field, sameField, op, rs, rt, rd, sa, fn, Fields, Fit}
-use Rattle.classes.specs.Row.{Pat, is, read, readBut, skip, skipBut, low, Row, patOf}
+use Rattle.word.specs.Word.{Field, sameField, op, rs, rt, rd, sa, funct, Fields, Fit}
+use Rattle.classes.specs.Row.{Pat, is, read, readBut, zeros, extra, skipBut, low, Row, patOf}
 use Rattle.classes.specs.Meaning.{match, six, nopLike, takes}
-use Rattle.classes.specs.Refusals.{Test, _one-of_, _none-of_, elem, holds, Refusal, meets}
+use Rattle.laws.specs.Lists.{elem}
+use Rattle.classes.specs.Refusals.{Test, _one-of_, _none-of_, holds, Refusal, meets}
 use Rattle.classes.specs.Theorems.{taking}
-use Rattle.classes.proofs.Walk.{Guard, passes}
-use Rattle.classes.proofs.Cover.{Box, within, ones, count, walked-ones, count-append, count-none, count-box, meet, within-meet, six-same}
+use Rattle.laws.proofs.Walk.{Guard, passes}
+use Rattle.classes.proofs.Cover.{Box, within, ones, count, walked-ones, count-append, count-none, count-box}
+use Rattle.classes.proofs.Cover.{meet, within-meet, six-same}
 
 -- ── rows ──
 
@@ -20,7 +21,8 @@ unfoldable pub guardOf : Pat → Guard
 guardOf (is v) = some (λ a. eqb a v)
 guardOf read = none
 guardOf (readBut v) = some (λ a. not (eqb a v))
-guardOf (skip y) = none
+guardOf zeros = none
+guardOf extra = none
 guardOf (skipBut v) = some (λ a. not (eqb a v))
 guardOf (low v) = some (match (low v))
 
@@ -29,7 +31,8 @@ unfolding guardOf match
 guard-match (is v) a = refl
 guard-match read a = refl
 guard-match (readBut v) a = refl
-guard-match (skip y) a = refl
+guard-match zeros a = refl
+guard-match extra a = refl
 guard-match (skipBut v) a = refl
 guard-match (low v) a = refl
 
@@ -52,7 +55,7 @@ limits a b c d rs = a
 limits a b c d rt = b
 limits a b c d rd = c
 limits a b c d sa = d
-limits a b c d fn = none
+limits a b c d funct = none
 
 unfoldable pub boxesBy : Bool → Box → List Box
 boxesBy false b = b ∷ []
@@ -130,7 +133,7 @@ only-at rs p f = and-true (p (f rs))
 only-at rt p f = and-true (p (f rt))
 only-at rd p f = and-true (p (f rd))
 only-at sa p f = and-true (p (f sa))
-only-at fn p f = refl
+only-at funct p f = refl
 
 within-test : (t : Test) (f : Fields) → within (testBox t) f ≡ holds t f
 unfolding testBox holds

@@ -1,5 +1,4 @@
 -- Boxes: sets of words given field by field. The walk, computed, shows that each word is in exactly one box of a list.
--- Assumes nothing.
 use Prim.Native.Nat.{ℕ, _+_}
 use mathlib.Core.Path.{_≡_, refl, sym, _∙_, ap, subst, fun-ext}
 use mathlib.Core.Bool.{Bool, true, false, cond, _&&_, and-true, and-comm, and-assoc}
@@ -7,10 +6,11 @@ use mathlib.Core.List.{List, [], _∷_, _++_}
 use mathlib.Core.Option.{none, some}
 use lib.Dec.{T, eqb, eqb→eq}
 use lib.ListN.{length, length-append}
-use Rattle.word.specs.Word.{Field, op, rs, rt, rd, sa, fn, Fields, Fit, room}
+use Rattle.word.specs.Word.{Field, op, rs, rt, rd, sa, funct, Fields, Fit, room}
 use Rattle.classes.specs.Meaning.{six}
 use Rattle.classes.proofs.Tests.{six-and}
-use Rattle.classes.proofs.Walk.{Guard, passes, walk, left, walked, sift, sift-append, keepIn, freeIn, markIn, keep-free, mark-keep, passing, left-sift}
+use Rattle.laws.proofs.Walk.{Guard, passes, walk, left, walked, sift, sift-append, keepIn, freeIn, markIn, keep-free}
+use Rattle.laws.proofs.Walk.{mark-keep, passing, left-sift}
 
 abbrev pub Box : Type 0
 Box = Field → Guard
@@ -42,7 +42,7 @@ count-box b f = go (within b f)
 
 -- the order in which the walk takes the fields: funct soon, since it tells the rows of a group apart
 abbrev pub order : List Field
-order = op ∷ fn ∷ rs ∷ rt ∷ rd ∷ sa ∷ []
+order = op ∷ funct ∷ rs ∷ rt ∷ rd ∷ sa ∷ []
 
 -- funct second or last
 later : (a g b : Bool) → a && (g && b) ≡ a && (b && g)
@@ -51,11 +51,11 @@ later a g b = rw (and-comm g b)
 regroup : (a b c d e g : Bool) → a && ((b && (c && (d && e))) && g) ≡ a && (b && (c && (d && (e && g))))
 regroup a b c d e g = simp and-assoc
 
-pub in-order : (p : Field → Bool) → (p op && (p fn && (p rs && (p rt && (p rd && (p sa && true)))))) ≡ six p
+pub in-order : (p : Field → Bool) → (p op && (p funct && (p rs && (p rt && (p rd && (p sa && true)))))) ≡ six p
 unfolding six
 in-order p =
-    ap (λ (b : Bool). p op && (p fn && (p rs && (p rt && (p rd && b))))) (and-true (p sa))
-    ∙ (later (p op) (p fn) (p rs && (p rt && (p rd && p sa))) ∙ regroup (p op) (p rs) (p rt) (p rd) (p sa) (p fn))
+    ap (λ (b : Bool). p op && (p funct && (p rs && (p rt && (p rd && b))))) (and-true (p sa))
+    ∙ (later (p op) (p funct) (p rs && (p rt && (p rd && p sa))) ∙ regroup (p op) (p rs) (p rt) (p rd) (p sa) (p funct))
 
 abbrev asked : Box → Field → Guard
 asked b = b

@@ -1,6 +1,6 @@
--- What is found in a table: a row of it, which takes the word and passes whatever all rows pass. So what holds of the blank reading and of
--- every row's readings holds of every word's. And, in two tables one after the other, what the first has.
--- Assumes nothing.
+-- What is found in a table: a row of it, which takes the word and passes whatever all rows pass. So what holds of the
+-- blank reading and of every row's readings holds of every word's. And, in two tables one after the other, what the first
+-- has.
 use Prim.Native.Nat.{ℕ, _+_, _≤_}
 use mathlib.Core.Path.{_≡_, refl, sym, ap, subst}
 use mathlib.Core.Bool.{Bool, true, false, cond, _&&_}
@@ -15,9 +15,10 @@ use Rattle.reading.specs.Reading.{blankInsn}
 use Rattle.classes.specs.Row.{Row}
 use Rattle.classes.specs.Meaning.{takes, find, meaning}
 use Rattle.classes.specs.Table.{table}
+use Rattle.classes.specs.Refusals.{Refusal, refusals}
 use Rattle.classes.specs.Decoded.{readingBy, decodedBy, decodedOf}
 use Rattle.classes.specs.Theorems.{taking}
-use Rattle.classes.proofs.Tests.{and-l, and-r, true-of, at-true}
+use Rattle.laws.proofs.Tests.{and-l, and-r, true-of, at-true}
 
 -- ── rows of a table ──
 
@@ -77,16 +78,22 @@ only-row (s ∷ ts) f l r (inr i) t = go (takes s f) l (in-taking ts f r i t) (�
 
 -- THE LAW of readings, for whatever holds of the blank one, and of what a row reads that passes a test
 module _ (P : Insn → Type 0) (p : Row → Bool) (blank : P blankInsn) where
-  pub reading-by : (ts : List Row) → T (every p ts) → (va : ℕ) (f : Fields) → ((r : Row) → T (p r) → P (meaning r va f)) → P (readingBy (find ts f) va f)
-  reading-by ts t va f h = go (find ts f) refl
+  pub reading-by : (ts : List Row) (es : List Refusal) → T (every p ts) → (va : ℕ) (f : Fields) →
+      ((r : Row) → T (p r) → P (meaning r va f)) →
+      P ((decodedBy ts es va f) .insn)
+  unfolding decodedBy
+  reading-by ts es t va f h = go (find ts f) refl
     where
       go : (o : Option Row) → find ts f ≡ o → P (readingBy o va f)
       go none e = blank
       go (some r) e = h r (every-found p ts t f r e)
 
-  pub each-reading : (w va : ℕ) (wide : Bool) → T (every p (table wide)) → ((r : Row) → T (p r) → P (meaning r va (fieldsOf w))) → P ((decodedOf w va wide) .insn)
-  unfolding decodedOf decodedBy
-  each-reading w va wide t = reading-by (table wide) t va (fieldsOf w)
+  -- of the definition's tables
+  pub each-reading : (w va : ℕ) (wide : Bool) → T (every p (table wide)) →
+      ((r : Row) → T (p r) → P (meaning r va (fieldsOf w))) →
+      P ((decodedOf w va wide) .insn)
+  unfolding decodedOf
+  each-reading w va wide t = reading-by (table wide) refusals t va (fieldsOf w)
 
 -- ── two tables ──
 

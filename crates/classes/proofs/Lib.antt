@@ -1,5 +1,4 @@
 pub mod Tests
-pub mod Walk
 pub mod Cover
 pub mod Boxes
 pub mod Accepts

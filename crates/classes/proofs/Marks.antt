@@ -1,5 +1,4 @@
 -- Document 01's rules of marks and targets: a test of each row, computed, and what it means for every word.
--- Assumes nothing.
 use Prim.Native.Nat.{ℕ}
 use mathlib.Core.Path.{_≡_, refl, _∙_}
 use mathlib.Core.Bool.{Bool, true, false, not, cond, _&&_, _||_, Bool·beq}
@@ -9,13 +8,17 @@ use Rattle.word.specs.Word.{Fields, fieldsOf, rd}
 use Rattle.reading.specs.declared.Op.{Op}
 use Rattle.reading.specs.declared.Flow.the-variants as flow
 use Rattle.reading.specs.Kind as kind
-use Rattle.classes.specs.Row.{Code, reg, freg, cop0, num, size, s16, u16, mem, br, jmp, Form, end, _▸_, posSize, link, Control, plain, call, jump, branch, return, interrupt, byRegister, Row}
+use Rattle.reading.specs.Reading.{blankInsn}
+use Rattle.classes.specs.Row.{Code, reg, freg, cop0, num, size, s16, u16, mem, br, jmp, Form, end, _▸_, posSize}
+use Rattle.classes.specs.Row.{link, Row}
+use Rattle.classes.specs.Row.{Control, plain, call, jump, branch, return, interrupt, byRegister}
 use Rattle.classes.specs.Meaning.{first, regOf, out, outs, flowOf, markOf, targetIn, reading, meaning}
 use Rattle.classes.specs.Table.{common, byWidth, table}
-use Rattle.classes.specs.Decoded.{decodedOf}
+use Rattle.classes.specs.Refusals.{Refusal, refusals}
+use Rattle.classes.specs.Decoded.{decodedBy, decodedOf}
 use Rattle.classes.specs.Theorems.{turns, present, Marked}
-use Rattle.classes.proofs.Tests.{and-l, and-r, either, beq-same}
-use Rattle.classes.proofs.Find.{every, each-reading}
+use Rattle.laws.proofs.Tests.{and-l, and-r, either, beq-same}
+use Rattle.classes.proofs.Find.{every, reading-by}
 
 -- ── the mark ──
 
@@ -81,24 +84,42 @@ presents link va f = either (λ os. present (targetIn os) ≡ false) (eqb (f rd)
 
 -- ── the test ──
 
+-- the rule of the mark, and that of the target
+unfoldable pub markRuled : Row → Bool
+markRuled r = Bool·beq (markOf (r .manner .control)) (turning (r .manner .control) || eqb (r .kind) kind.jr)
+
+unfoldable pub targetRuled : Row → Bool
+targetRuled r =
+    Bool·beq (targeted (r .form))
+    (markOf (r .manner .control) && not (eqb (r .kind) kind.jr || eqb (r .kind) kind.jalr))
+
 unfoldable pub ruled : Row → Bool
-ruled r =
-    Bool·beq (markOf (r .control)) (turning (r .control) || eqb (r .kind) kind.jr)
-    && Bool·beq (targeted (r .form)) (markOf (r .control) && not (eqb (r .kind) kind.jr || eqb (r .kind) kind.jalr))
+ruled r = markRuled r && targetRuled r
 
 marked-row : (r : Row) (va : ℕ) (f : Fields) → T (ruled r) → Marked (meaning r va f)
-unfolding ruled meaning reading
+unfolding ruled markRuled targetRuled meaning reading
 marked-row r va f t =
+    let os = outs (r .form) va f in
     record {
-      mark = marks (r .control) (eqb (r .kind) kind.jr) (outs (r .form) va f) (beq-same _ _ (and-l (Bool·beq (markOf (r .control)) (turning (r .control) || eqb (r .kind) kind.jr)) _ t));
-      target = presents (r .form) va f ∙ beq-same _ _ (and-r (Bool·beq (markOf (r .control)) (turning (r .control) || eqb (r .kind) kind.jr)) _ t);
+      mark = marks (r .manner .control) (eqb (r .kind) kind.jr) os (beq-same _ _ (and-l (markRuled r) _ t));
+      target = presents (r .form) va f ∙ beq-same _ _ (and-r (markRuled r) _ t);
     }
 
+-- THE LAW for any table whose rows pass the test
+pub marked-by : (ts : List Row) (es : List Refusal) → T (every ruled ts) → (va : ℕ) (f : Fields) →
+    Marked ((decodedBy ts es va f) .insn)
+marked-by ts es t va f = reading-by Marked ruled blank-marked ts es t va f (λ r. marked-row r va f)
+  where
+    blank-marked : Marked blankInsn
+    blank-marked = record { mark = refl; target = refl }
+
+-- ── the table of the definition ──
+
 ruled-table : (wide : Bool) → T (every ruled (table wide))
-unfolding every ruled markOf turning targeted places table common byWidth
+unfolding every ruled markRuled targetRuled markOf turning targeted places table common byWidth
 ruled-table true = tt
 ruled-table false = tt
 
 pub marked : (w va : ℕ) (wide : Bool) → Marked ((decodedOf w va wide) .insn)
-marked w va wide =
-    each-reading Marked ruled (record { mark = refl; target = refl }) w va wide (ruled-table wide) (λ r. marked-row r va (fieldsOf w))
+unfolding decodedOf
+marked w va wide = marked-by (table wide) refusals (ruled-table wide) va (fieldsOf w)

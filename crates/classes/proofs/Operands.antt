@@ -1,5 +1,4 @@
 -- The operands of a row: at most four, what holds of each of them, and the slots that they stand in.
--- Assumes nothing.
 use Prim.Native.Nat.{ℕ, zero, suc, _≤_, _<_}
 use mathlib.Core.Path.{_≡_, refl, sym, _∙_, ap, subst}
 use mathlib.Core.Bool.{Bool, true, false, _&&_}
@@ -17,7 +16,7 @@ use Rattle.reading.specs.Reading.{operand, unused}
 use Rattle.classes.specs.Row.{Code, reg, num, Form, end, _▸_, posSize, link, Row}
 use Rattle.classes.specs.Meaning.{out, outs, head, tail, first, second, third, fourth, slots}
 use Rattle.classes.specs.Table.{common, byWidth, table}
-use Rattle.classes.proofs.Tests.{and-l, and-r, either}
+use Rattle.laws.proofs.Tests.{and-l, and-r, either}
 use Rattle.classes.proofs.Find.{every}
 
 -- ── how many there are ──

@@ -1,8 +1,7 @@
 -- What specs/Theorems.antt states, proved.
--- Assumes nothing.
 use mathlib.Core.Path.{refl}
 use mathlib.Core.Bool.{Bool, true, false}
-use Rattle.classes.specs.Refusals.{elem}
+use Rattle.laws.specs.Lists.{elem}
 use Rattle.classes.specs.Table.{common, byWidth, table}
 use Rattle.classes.specs.Unread.{list, listedIn, unreadAt, unreadBy}
 use Rattle.classes.specs.Theorems.{Unread, Theorems}

@@ -1,29 +1,36 @@
--- The operands of a class are made of the fields that its row reads: a test of each row, computed. So what is not read makes no
--- difference to the reading.
--- Assumes nothing.
+-- The operands of a class are made of the fields that its row reads: a test of each row, computed. So what is not read
+-- makes no difference to the reading.
 use Prim.Native.Nat.{ℕ, _+_}
 use mathlib.Core.Path.{_≡_, refl, sym, _∙_, ap, ap₂, subst}
 use mathlib.Core.Bool.{Bool, true, false, cond, _||_, Bool·beq}
 use mathlib.Core.List.{List, [], _∷_}
+use mathlib.Core.Option.{some}
 use lib.Dec.{T, eqb}
 use lib.IntN.{pos}
-use Rattle.word.specs.Word.{Field, sameField, rs, rt, rd, sa, fn, Fields, fieldsOf}
+use Rattle.word.specs.Word.{Field, sameField, rs, rt, rd, sa, funct, Fields, Fit, fieldsOf}
+use Rattle.word.proofs.Fields.{fields-fit}
 use Rattle.word.specs.Numbers.{imm, index, signed, branchTo, jumpTo, sizeOf}
 use Rattle.reading.specs.declared.Op.{Op}
 use Rattle.reading.specs.declared.Op.the-variants.{Reg, FReg, Imm, Mem, Addr, Cop0}
-use Rattle.classes.specs.Row.{Pat, is, read, readBut, skip, skipBut, low, Code, reg, freg, cop0, num, size, s16, u16, mem, br, jmp, Form, end, _▸_, posSize, link, Row, patOf}
-use Rattle.classes.specs.Meaning.{six, out, outs, reading, meaning}
+use Rattle.classes.specs.Row.{Pat, is, read, readBut, zeros, extra, skipBut, low, Row, patOf}
+use Rattle.classes.specs.Row.{Code, reg, freg, cop0, num, size, s16, u16, mem, br, jmp, Form, end, _▸_, posSize}
+use Rattle.classes.specs.Row.{link}
+use Rattle.classes.specs.Meaning.{six, find, out, outs, reading, meaning}
 use Rattle.classes.specs.Table.{common, byWidth, table}
-use Rattle.classes.specs.Decoded.{acceptedAs}
+use Rattle.reading.specs.Reading.{acceptedAs}
+use Rattle.classes.specs.Refusals.{Refusal, refusals}
+use Rattle.classes.specs.Decoded.{decodedBy, decodedOf}
 use Rattle.classes.specs.Theorems.{AgreeAt, Agree, Ignored}
-use Rattle.classes.proofs.Tests.{or-l, or-r, six-at, beq-same, self}
+use Rattle.laws.proofs.Tests.{or-l, or-r, beq-same}
+use Rattle.classes.proofs.Tests.{six-at, self}
 use Rattle.classes.proofs.Find.{every, every-found}
-use Rattle.classes.proofs.Accepts.{accepted}
+use Rattle.classes.proofs.Boxes.{exact}
+use Rattle.classes.proofs.Accepts.{accepted-by, exact-table}
 
 -- ── the fields that operands are made of ──
 
 abbrev pub low16 : Field → Bool
-low16 x = sameField rd x || (sameField sa x || sameField fn x)
+low16 x = sameField rd x || (sameField sa x || sameField funct x)
 
 unfoldable pub uses : Code → Field → Bool
 uses (reg y) x = sameField y x
@@ -44,11 +51,11 @@ usesForm posSize x = sameField rd x || sameField sa x
 usesForm link x = sameField rd x || sameField rs x
 
 module _ (f g : Fields) where
-  imm-same : f rd ≡ g rd → f sa ≡ g sa → f fn ≡ g fn → imm f ≡ imm g
+  imm-same : f rd ≡ g rd → f sa ≡ g sa → f funct ≡ g funct → imm f ≡ imm g
   unfolding imm
   imm-same p q r = cc
 
-  index-same : f rs ≡ g rs → f rt ≡ g rt → f rd ≡ g rd → f sa ≡ g sa → f fn ≡ g fn → index f ≡ index g
+  index-same : f rs ≡ g rs → f rt ≡ g rt → f rd ≡ g rd → f sa ≡ g sa → f funct ≡ g funct → index f ≡ index g
   unfolding index
   index-same p q r s t = cc
 
@@ -59,11 +66,11 @@ module _ (f g : Fields) where
   out-same (cop0 y) va h = ap Cop0 (h y (self y))
   out-same (num y) va h = ap (λ (n : ℕ). Imm (pos n)) (h y (self y))
   out-same size va h = ap (λ (n : ℕ). Imm (pos (n + 1))) (h rd tt)
-  out-same s16 va h = ap (λ (n : ℕ). Imm (signed 16 n)) (imm-same (h rd tt) (h sa tt) (h fn tt))
-  out-same u16 va h = ap (λ (n : ℕ). Imm (pos n)) (imm-same (h rd tt) (h sa tt) (h fn tt))
-  out-same mem va h = ap₂ (λ (n b : ℕ). Mem (signed 16 n) b) (imm-same (h rd tt) (h sa tt) (h fn tt)) (h rs tt)
-  out-same br va h = ap (λ (n : ℕ). Addr (branchTo va n)) (imm-same (h rd tt) (h sa tt) (h fn tt))
-  out-same jmp va h = ap (λ (n : ℕ). Addr (jumpTo va n)) (index-same (h rs tt) (h rt tt) (h rd tt) (h sa tt) (h fn tt))
+  out-same s16 va h = ap (λ (n : ℕ). Imm (signed 16 n)) (imm-same (h rd tt) (h sa tt) (h funct tt))
+  out-same u16 va h = ap (λ (n : ℕ). Imm (pos n)) (imm-same (h rd tt) (h sa tt) (h funct tt))
+  out-same mem va h = ap₂ (λ (n b : ℕ). Mem (signed 16 n) b) (imm-same (h rd tt) (h sa tt) (h funct tt)) (h rs tt)
+  out-same br va h = ap (λ (n : ℕ). Addr (branchTo va n)) (imm-same (h rd tt) (h sa tt) (h funct tt))
+  out-same jmp va h = ap (λ (n : ℕ). Addr (jumpTo va n)) (index-same (h rs tt) (h rt tt) (h rd tt) (h sa tt) (h funct tt))
 
   pub outs-same : (φ : Form) (va : ℕ) → ((x : Field) → T (usesForm φ x) → f x ≡ g x) → outs φ va f ≡ outs φ va g
   unfolding outs usesForm
@@ -80,7 +87,8 @@ unfoldable pub isRead : Pat → Bool
 isRead (is v) = false
 isRead read = true
 isRead (readBut v) = true
-isRead (skip y) = false
+isRead zeros = false
+isRead extra = false
 isRead (skipBut v) = false
 isRead (low v) = false
 
@@ -89,7 +97,8 @@ unfolding isRead
 read-agree (is v) a b t e = e
 read-agree read a b t e = e
 read-agree (readBut v) a b t e = e
-read-agree (skip y) a b t e = absurd t
+read-agree zeros a b t e = absurd t
+read-agree extra a b t e = absurd t
 read-agree (skipBut v) a b t e = absurd t
 read-agree (low v) a b t e = absurd t
 
@@ -97,14 +106,9 @@ read-agree (low v) a b t e = absurd t
 unfoldable pub madeOfRead : Row → Bool
 madeOfRead r = six (λ x. Bool·beq (usesForm (r .form) x) (isRead (patOf r x)))
 
-pub made-table : (wide : Bool) → T (every madeOfRead (table wide))
-unfolding every madeOfRead six usesForm uses isRead table common byWidth
-made-table true = tt
-made-table false = tt
-
 meaning-same : (r : Row) (va : ℕ) (f g : Fields) → T (madeOfRead r) → Agree r f g → meaning r va f ≡ meaning r va g
 unfolding meaning madeOfRead
-meaning-same r va f g t a = ap (reading (r .kind) (r .control) (r .change)) (outs-same f g (r .form) va agree)
+meaning-same r va f g t a = ap (reading (r .kind) (r .manner)) (outs-same f g (r .form) va agree)
   where
     agree : (x : Field) → T (usesForm (r .form) x) → f x ≡ g x
     agree x u =
@@ -112,11 +116,28 @@ meaning-same r va f g t a = ap (reading (r .kind) (r .control) (r .change)) (out
         (subst T (beq-same (usesForm (r .form) x) (isRead (patOf r x)) (six-at (λ y. Bool·beq (usesForm (r .form) y) (isRead (patOf r y))) t x)) u)
         (a x)
 
+-- THE LAW for any table and any acceptance table that pass the tests
+pub ignored-by : (ts : List Row) (es : List Refusal) → T (exact ts es) → T (every madeOfRead ts) →
+    (va : ℕ) (f g : Fields) → Fit f → Fit g →
+    (r : Row) → find ts f ≡ some r → find ts g ≡ some r → Agree r f g →
+    decodedBy ts es va f ≡ decodedBy ts es va g
+ignored-by ts es t made va f g h k r d e a =
+    accepted-by ts es t f h va r d
+    ∙ (ap acceptedAs (meaning-same r va f g (every-found madeOfRead ts made f r d) a)
+    ∙ sym (accepted-by ts es t g k va r e))
+
+-- ── the table of the definition ──
+
+pub made-table : (wide : Bool) → T (every madeOfRead (table wide))
+unfolding every madeOfRead six usesForm uses isRead table common byWidth
+made-table true = tt
+made-table false = tt
+
 pub ignored : (w v va : ℕ) (wide : Bool) → Ignored w v va wide
+unfolding decodedOf
 ignored w v va wide =
     record {
-      same = λ r d e a.
-          accepted w va wide r d
-          ∙ (ap acceptedAs (meaning-same r va (fieldsOf w) (fieldsOf v) (every-found madeOfRead (table wide) (made-table wide) (fieldsOf w) r d) a)
-          ∙ sym (accepted v va wide r e));
+      same =
+          ignored-by (table wide) refusals (exact-table wide) (made-table wide) va (fieldsOf w) (fieldsOf v)
+          (fields-fit w) (fields-fit v);
     }

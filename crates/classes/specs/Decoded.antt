@@ -1,5 +1,4 @@
 -- WHAT A WORD MEANS: the number and the reading that belong to a word, for every word, address and width flag.
--- Assumes nothing.
 use Prim.Native.Nat.{ℕ}
 use mathlib.Core.Bool.{Bool}
 use mathlib.Core.List.{List}
@@ -17,10 +16,6 @@ use Rattle.classes.specs.Refusals.{Refusal, refusal, refusals}
 abbrev pub readingBy : Option Row → ℕ → Fields → Insn
 readingBy none va f = blankInsn
 readingBy (some r) va f = meaning r va f
-
--- an accepted word's answer
-abbrev pub acceptedAs : Insn → Decoded
-acceptedAs i = record { number = 0; insn = i }
 
 -- by any table of rows and any table of refusals: the number is the refusals', the reading the rows'
 unfoldable pub decodedBy : List Row → List Refusal → ℕ → Fields → Decoded

@@ -5,3 +5,4 @@ pub mod Refusals
 pub mod Decoded
 pub mod Unread
 pub mod Theorems
+pub mod Private

@@ -1,5 +1,4 @@
 -- Which words a row takes, and what it makes of their fields.
--- Assumes nothing.
 use Prim.Native.Nat.{ℕ, _+_, _%_}
 use mathlib.Core.Bool.{Bool, true, false, not, cond, _&&_}
 use mathlib.Core.List.{List, [], _∷_}
@@ -7,7 +6,7 @@ use mathlib.Core.Option.{Option, none, some}
 use lib.Dec.{eqb, leb}
 use lib.IntN.{ℤ, pos, negsuc}
 use lib.ListN.{length}
-use Rattle.word.specs.Word.{Field, op, rs, rt, rd, sa, fn, Fields}
+use Rattle.word.specs.Word.{Field, op, rs, rt, rd, sa, funct, Fields}
 use Rattle.word.specs.Numbers.{imm, index, signed, branchTo, jumpTo, upper, sizeOf}
 use Rattle.reading.specs.declared.Op.{Op}
 use Rattle.reading.specs.declared.Op.the-variants.{Reg, FReg, Imm, Mem, Addr, Cop0}
@@ -20,8 +19,11 @@ use Rattle.reading.specs.declared.Target.{Target}
 use Rattle.reading.specs.declared.Target.the-variants as target
 use Rattle.reading.specs.declared.Insn.{Insn}
 use Rattle.reading.specs.Reading.{operand}
-use Rattle.classes.specs.Row.{Pat, is, read, readBut, skip, skipBut, low, Code, reg, freg, cop0, num, size, s16, u16, mem, br, jmp, Form, end, _▸_, posSize, link}
-use Rattle.classes.specs.Row.{Control, plain, call, jump, branch, return, interrupt, byRegister, Change, nothing, writes, adds, sets, setsUpper, loads, stores, Row, patOf}
+use Rattle.classes.specs.Row.{Pat, is, read, readBut, zeros, extra, skipBut, low, Row, patOf}
+use Rattle.classes.specs.Row.{Code, reg, freg, cop0, num, size, s16, u16, mem, br, jmp}
+use Rattle.classes.specs.Row.{Form, end, _▸_, posSize, link, Manner}
+use Rattle.classes.specs.Row.{Control, plain, call, jump, branch, return, interrupt, byRegister}
+use Rattle.classes.specs.Row.{Change, nothing, writes, adds, sets, setsUpper, memory, memoryOnly}
 
 -- ── which words a row takes ──
 
@@ -29,13 +31,14 @@ unfoldable pub match : Pat → ℕ → Bool
 match (is v) a = eqb a v
 match read a = true
 match (readBut v) a = not (eqb a v)
-match (skip y) a = true
+match zeros a = true
+match extra a = true
 match (skipBut v) a = not (eqb a v)
 match (low v) a = eqb (a % 4) v
 
 -- a test at each of the six fields
 unfoldable pub six : (Field → Bool) → Bool
-six p = p op && (p rs && (p rt && (p rd && (p sa && p fn))))
+six p = p op && (p rs && (p rt && (p rd && (p sa && p funct))))
 
 -- word 0 or 0x40, if op and funct are 0
 unfoldable pub nopLike : Fields → Bool
@@ -121,8 +124,8 @@ effectOf writes os = effect.Write (regOf (first os))
 effectOf adds os = effect.AddImm (regOf (first os)) (regOf (second os)) (intOf (third os))
 effectOf sets os = effect.AddImm (regOf (first os)) 0 (intOf (second os))
 effectOf setsUpper os = effect.SetAddr (regOf (first os)) (upper (natOf (intOf (second os))))
-effectOf (loads n) os = effect.Mem (regOf (first os)) (regOf (second os)) (intOf (second os)) n
-effectOf (stores n) os = effect.Mem 0 (regOf (second os)) (intOf (second os)) n
+effectOf (memory n) os = effect.Mem (regOf (first os)) (regOf (second os)) (intOf (second os)) n
+effectOf (memoryOnly n) os = effect.Mem 0 (regOf (second os)) (intOf (second os)) n
 
 unfoldable pub flowOf : Control → List Op → Flow
 flowOf plain os = flow.None
@@ -157,19 +160,19 @@ targetIn (Cop0 n ∷ os) = targetIn os
 abbrev pub slots : List Op → List Operand
 slots os = operand (first os) ∷ operand (second os) ∷ operand (third os) ∷ operand (fourth os) ∷ []
 
--- the reading with this mnemonic, control, effect and operands
-unfoldable pub reading : ℕ → Control → Change → List Op → Insn
-reading k c e os =
+-- the reading with this mnemonic, manner and operands
+unfoldable pub reading : ℕ → Manner → List Op → Insn
+reading k m os =
     record {
       mnemonic = k;
       count = length os;
       ops = slots os;
-      flow = flowOf c os;
+      flow = flowOf (m .control) os;
       target = targetIn os;
-      «delay_slot» = markOf c;
-      effect = effectOf e os;
+      «delay_slot» = markOf (m .control);
+      effect = effectOf (m .change) os;
     }
 
 -- what a row reads at an address
 unfoldable pub meaning : Row → ℕ → Fields → Insn
-meaning r va f = reading (r .kind) (r .control) (r .change) (outs (r .form) va f)
+meaning r va f = reading (r .kind) (r .manner) (outs (r .form) va f)

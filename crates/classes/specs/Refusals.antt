@@ -1,10 +1,11 @@
--- Which words are refused, and with which number: document 01's acceptance table, a line for each entry. It says nothing of the rows.
--- Assumes nothing.
+-- Which words are refused, and with which number: document 01's acceptance table, a line for each entry. It does not
+-- speak of the rows.
 use Prim.Native.Nat.{ℕ, _+_, _-_}
-use mathlib.Core.Bool.{Bool, true, false, not, cond, _&&_, _||_}
+use mathlib.Core.Bool.{Bool, true, not, cond, _&&_}
 use mathlib.Core.List.{List, [], _∷_, _++_}
-use lib.Dec.{eqb}
-use Rattle.word.specs.Word.{Field, op, rs, rt, sa, fn, Fields}
+use Rattle.laws.specs.Lists.{elem}
+use Rattle.refusal.specs.Numbers as numbers
+use Rattle.word.specs.Word.{Field, op, rs, rt, sa, funct, Fields}
 use Rattle.reading.specs.Kind.{from}
 
 -- is the field one of these, or none of these?
@@ -14,10 +15,6 @@ pub data Test : Type 0 where
 
 infix 80 _one-of_
 infix 80 _none-of_
-unfoldable pub elem : ℕ → List ℕ → Bool
-elem a [] = false
-elem a (v ∷ vs) = eqb a v || elem a vs
-
 unfoldable pub holds : Test → Fields → Bool
 holds (x one-of vs) f = elem (f x) vs
 holds (x none-of vs) f = not (elem (f x) vs)
@@ -54,20 +51,22 @@ arithmetic = 16 ∷ 17 ∷ 20 ∷ 21 ∷ []
 unfoldable pub refusals : List Refusal
 refusals =
     -- op
-    refuse 2 (op one-of (18 ∷ 19 ∷ 29 ∷ 30 ∷ 50 ∷ 54 ∷ 58 ∷ 59 ∷ 62 ∷ []) ∷ []) ∷
+    refuse numbers.op (op one-of (18 ∷ 19 ∷ 29 ∷ 30 ∷ 50 ∷ 54 ∷ 58 ∷ 59 ∷ 62 ∷ []) ∷ []) ∷
     -- SPECIAL, by funct
-    refuse 3 (op one-of only 0 ∷ fn one-of (1 ∷ 5 ∷ 14 ∷ 21 ∷ 40 ∷ 41 ∷ 53 ∷ 55 ∷ 57 ∷ 61 ∷ []) ∷ []) ∷
+    refuse numbers.special (op one-of only 0 ∷ funct one-of (1 ∷ 5 ∷ 14 ∷ 21 ∷ 40 ∷ 41 ∷ 53 ∷ 55 ∷ 57 ∷ 61 ∷ []) ∷ []) ∷
     -- REGIMM, by rt
-    refuse 4 (op one-of only 1 ∷ rt none-of (0 to 3 ++ 16 ∷ 17 ∷ []) ∷ []) ∷
+    refuse numbers.regimm (op one-of only 1 ∷ rt none-of (0 to 3 ++ 16 ∷ 17 ∷ []) ∷ []) ∷
     -- COP0, by rs; rs 16 by funct
-    refuse 5 (op one-of only 16 ∷ rs none-of (0 ∷ 4 ∷ 16 ∷ []) ∷ []) ∷
-    refuse 5 (op one-of only 16 ∷ rs one-of only 16 ∷ fn none-of (24 ∷ 32 ∷ []) ∷ []) ∷
+    refuse numbers.cop0 (op one-of only 16 ∷ rs none-of (0 ∷ 4 ∷ 16 ∷ []) ∷ []) ∷
+    refuse numbers.cop0 (op one-of only 16 ∷ rs one-of only 16 ∷ funct none-of (24 ∷ 32 ∷ []) ∷ []) ∷
     -- COP1, by fmt, the rs bits; 16, 17, 20 and 21 by funct
-    refuse 6 (op one-of only 17 ∷ rs one-of (3 ∷ 7 ∷ 9 to 15 ++ 18 ∷ 19 ∷ 22 to 31) ∷ []) ∷
-    refuse 6 (op one-of only 17 ∷ rs one-of arithmetic ∷ fn none-of (0 to 7 ++ 13 ∷ 32 ∷ 33 ∷ 36 ∷ 37 ∷ 50 ∷ 60 ∷ 62 ∷ []) ∷ []) ∷
+    refuse numbers.cop1 (op one-of only 17 ∷ rs one-of (3 ∷ 7 ∷ 9 to 15 ++ 18 ∷ 19 ∷ 22 to 31) ∷ []) ∷
+    refuse numbers.cop1
+    (op one-of only 17 ∷ rs one-of arithmetic ∷
+    funct none-of (0 to 7 ++ 13 ∷ 32 ∷ 33 ∷ 36 ∷ 37 ∷ 50 ∷ 60 ∷ 62 ∷ []) ∷ []) ∷
     -- SPECIAL2, by funct
-    refuse 7 (op one-of only 28 ∷ fn none-of (0 ∷ 1 ∷ 2 ∷ 4 ∷ 32 ∷ 33 ∷ []) ∷ []) ∷
+    refuse numbers.special2 (op one-of only 28 ∷ funct none-of (0 ∷ 1 ∷ 2 ∷ 4 ∷ 32 ∷ 33 ∷ []) ∷ []) ∷
     -- SPECIAL3, by funct; 32 by sa
-    refuse 8 (op one-of only 31 ∷ fn none-of (0 ∷ 4 ∷ 32 ∷ 59 ∷ []) ∷ []) ∷
-    refuse 8 (op one-of only 31 ∷ fn one-of only 32 ∷ sa none-of (2 ∷ 16 ∷ 24 ∷ []) ∷ []) ∷
+    refuse numbers.special3 (op one-of only 31 ∷ funct none-of (0 ∷ 4 ∷ 32 ∷ 59 ∷ []) ∷ []) ∷
+    refuse numbers.special3 (op one-of only 31 ∷ funct one-of only 32 ∷ sa none-of (2 ∷ 16 ∷ 24 ∷ []) ∷ []) ∷
     []

@@ -1,32 +1,20 @@
--- A row of the table of classes: what each of a word's six fields must be and whether the class reads it, the operands in order, where
--- control goes, and the effect. A page of the manual draws its encoding in the same way.
--- Assumes nothing.
+-- A row of the table of classes: what each of a word's six fields must be and whether the class reads it, the operands
+-- in order, where control goes, and the effect. A page of the manual draws its encoding in the same way.
 use Prim.Native.Nat.{ℕ}
 use mathlib.Core.Bool.{Bool}
-use Rattle.word.specs.Word.{Field, op, rs, rt, rd, sa, fn}
+use Rattle.word.specs.Word.{Field, op, rs, rt, rd, sa, funct}
 
 -- ── a field ──
-
--- why a class does not read a field: the manual has zeros there, or it has something there that the reading leaves out (a code, a sel,
--- a cc)
-pub data Why : Type 0 where
-  fixed dropped : Why
 
 -- what a class asks of a field
 pub data Pat : Type 0 where
   is : ℕ → Pat  -- this value
   read : Pat  -- any value, and it is read
   readBut : ℕ → Pat  -- any value but this, and it is read
-  skip : Why → Pat  -- any value; not read
+  zeros : Pat  -- any value; not read, since the manual has zeros there
+  extra : Pat  -- any value; not read, though the manual has something there: a code, a sel, a cc
   skipBut : ℕ → Pat  -- any value but this; not read
   low : ℕ → Pat  -- its two low bits have this value; the others are not read
-
--- not read, with the one reason or the other
-abbrev pub zeros : Pat
-zeros = skip fixed
-
-abbrev pub extra : Pat
-extra = skip dropped
 
 -- ── the operands ──
 
@@ -39,7 +27,7 @@ pub data Code : Type 0 where
   br jmp : Code  -- the target of a branch and of a jump
   deriving Discrete as Code-discrete
 
--- the operands of a class, in the order of the manual's Format line. Those of `ins` and `jalr` end in a way of their own
+-- the operands of a class, in the order of the manual's Format line; those of `ins` and `jalr` end in their own way
 pub data Form : Type 0 where
   end : Form
   _▸_ : Code → Form → Form
@@ -48,7 +36,7 @@ pub data Form : Type 0 where
   deriving Discrete as Form-discrete
 
 infixr 40 _▸_
--- ── control and effect ──
+-- ── its manner: control and effect ──
 
 -- where control goes: the flow, and with it the mark
 pub data Control : Type 0 where
@@ -63,8 +51,14 @@ pub data Change : Type 0 where
   adds : Change  -- AddImm of the first, the second and the third
   sets : Change  -- AddImm of the first, register 0 and the second
   setsUpper : Change  -- SetAddr of the first, with the second as lui leaves it
-  loads stores : ℕ → Change  -- Mem, of this size; a store has register 0 first
+  memory : ℕ → Change  -- Mem, of this size, with the first
+  memoryOnly : ℕ → Change  -- Mem, of this size, with register 0
   deriving Discrete as Change-discrete
+
+-- what a class does, beside its operands
+pub record Manner : Type 0 where
+  pub control : Control
+  pub change : Change
 
 -- ── a row ──
 
@@ -75,11 +69,10 @@ pub record Row : Type 0 where
   pub prt : Pat
   pub prd : Pat
   pub psa : Pat
-  pub pfn : Pat
+  pub pfunct : Pat
   pub nops : Bool  -- words 0 and 0x40, which are `nop` and `ssnop`, are left out
   pub form : Form
-  pub control : Control
-  pub change : Change
+  pub manner : Manner
 
 abbrev pub patOf : Row → Field → Pat
 patOf r op = r .pop
@@ -87,4 +80,4 @@ patOf r rs = r .prs
 patOf r rt = r .prt
 patOf r rd = r .prd
 patOf r sa = r .psa
-patOf r fn = r .pfn
+patOf r funct = r .pfunct

@@ -1,24 +1,23 @@
 -- WHAT IS PROVED OF THE DEFINITION, for every word, address and width flag. The proofs stand in proofs/Proved.antt.
--- Assumes nothing.
 use Prim.Native.Nat.{ℕ, _+_, _%_}
 use mathlib.Core.Path.{_≡_}
 use mathlib.Core.Bool.{Bool, true, false, not, cond, _&&_, _||_}
 use mathlib.Core.List.{List, [], _∷_, map}
 use mathlib.Core.Option.{some}
 use lib.Dec.{eqb}
-use Rattle.word.specs.Word.{Field, Fields, fieldsOf, op, rs, rt, rd, fn}
+use Rattle.word.specs.Word.{Field, Fields, fieldsOf, op, rs, rt, rd, funct}
 use Rattle.reading.specs.declared.Op.the-variants.{Reg}
 use Rattle.reading.specs.declared.Flow.{Flow}
 use Rattle.reading.specs.declared.Flow.the-variants as flow
 use Rattle.reading.specs.declared.Target.{Target}
 use Rattle.reading.specs.declared.Target.the-variants as target
 use Rattle.reading.specs.declared.Insn.{Insn}
-use Rattle.reading.specs.Reading.{refusedOf}
+use Rattle.reading.specs.Reading.{refusedOf, acceptedAs}
 use Rattle.reading.specs.Kind as kind
-use Rattle.classes.specs.Row.{Pat, is, read, readBut, skip, skipBut, low, plain, writes, Row, patOf}
+use Rattle.classes.specs.Row.{Pat, is, read, readBut, zeros, extra, skipBut, low, Row, patOf}
 use Rattle.classes.specs.Meaning.{takes, find, reading}
-use Rattle.classes.specs.Table.{table}
-use Rattle.classes.specs.Decoded.{acceptedAs, decodedOf}
+use Rattle.classes.specs.Table.{computes, table}
+use Rattle.classes.specs.Decoded.{decodedOf}
 use Rattle.classes.specs.Unread.{unreadBy, listed}
 
 -- ── acceptance ──
@@ -45,16 +44,22 @@ abbrev pub AgreeAt : Pat → ℕ → ℕ → Type 0
 AgreeAt (is v) a b = a ≡ b
 AgreeAt read a b = a ≡ b
 AgreeAt (readBut v) a b = a ≡ b
-AgreeAt (skip y) a b = Unit {0}
+AgreeAt zeros a b = Unit {0}
+AgreeAt extra a b = Unit {0}
 AgreeAt (skipBut v) a b = Unit {0}
 AgreeAt (low v) a b = a % 4 ≡ b % 4
 
 abbrev pub Agree : Row → Fields → Fields → Type 0
 Agree r f g = (x : Field) → AgreeAt (patOf r x) (f x) (g x)
 
--- what is not read makes no difference: two words of one class that agree in the fields which the class reads have one answer
+-- what is not read makes no difference: two words of one class that agree in the fields which the class reads have one
+-- answer
 pub record Ignored (w v va : ℕ) (wide : Bool) : Type 0 where
-  pub same : (r : Row) → find (table wide) (fieldsOf w) ≡ some r → find (table wide) (fieldsOf v) ≡ some r → Agree r (fieldsOf w) (fieldsOf v) → decodedOf w va wide ≡ decodedOf v va wide
+  pub same : (r : Row) →
+      find (table wide) (fieldsOf w) ≡ some r →
+      find (table wide) (fieldsOf v) ≡ some r →
+      Agree r (fieldsOf w) (fieldsOf v) →
+      decodedOf w va wide ≡ decodedOf v va wide
 
 -- ── marks and targets ──
 
@@ -70,8 +75,8 @@ abbrev pub present : Target → Bool
 present target.None = false
 present (target.At a) = true
 
--- the mark is set exactly if flow is Call, Jump or CondJump, or the word is `jr`; a target is present exactly if the mark is set and
--- the word is neither `jr` nor `jalr`
+-- the mark is set exactly if flow is Call, Jump or CondJump, or the word is `jr`; a target is present exactly if the
+-- mark is set and the word is neither `jr` nor `jalr`
 pub record Marked (i : Insn) : Type 0 where
   pub mark : i .«delay_slot» ≡ (turns (i .flow) || eqb (i .mnemonic) kind.jr)
   pub target : present (i .target) ≡ (i .«delay_slot» && not (eqb (i .mnemonic) kind.jr || eqb (i .mnemonic) kind.jalr))
@@ -80,12 +85,15 @@ pub record Marked (i : Insn) : Type 0 where
 
 -- SPECIAL 45 with rt zero
 abbrev pub Flagged : Fields → Type 0
-Flagged f = (f op ≡ 0) × (f fn ≡ 45) × (f rt ≡ 0)
+Flagged f = (f op ≡ 0) × (f funct ≡ 45) × (f rt ≡ 0)
 
 pub record Width (w va : ℕ) : Type 0 where
   pub same : ¬ Flagged (fieldsOf w) → decodedOf w va true ≡ decodedOf w va false
-  pub wide : Flagged (fieldsOf w) → decodedOf w va true ≡ acceptedAs (reading kind.move plain writes (Reg (fieldsOf w rd) ∷ Reg (fieldsOf w rs) ∷ []))
-  pub narrow : Flagged (fieldsOf w) → decodedOf w va false ≡ acceptedAs (reading kind.daddu plain writes (Reg (fieldsOf w rd) ∷ Reg (fieldsOf w rs) ∷ Reg 0 ∷ []))
+  pub wide : Flagged (fieldsOf w) →
+      decodedOf w va true ≡ acceptedAs (reading kind.move computes (Reg (fieldsOf w rd) ∷ Reg (fieldsOf w rs) ∷ []))
+  pub narrow : Flagged (fieldsOf w) →
+      decodedOf w va false
+      ≡ acceptedAs (reading kind.daddu computes (Reg (fieldsOf w rd) ∷ Reg (fieldsOf w rs) ∷ Reg 0 ∷ []))
 
 -- ── all of it ──
 

@@ -1,11 +1,11 @@
--- The fields that a class does not read, a second time: document 01's list in its own words, and what the table's columns say.
--- Assumes nothing.
+-- The fields that a class does not read, a second time: document 01's list in its own words, and what the table's
+-- columns say.
 use Prim.Native.Nat.{ℕ, _+_, _-_, _^_}
 use mathlib.Core.Bool.{cond}
 use mathlib.Core.List.{List, [], _∷_, _++_}
 use Rattle.reading.specs.Kind as kind
-use Rattle.classes.specs.Row.{Pat, is, read, readBut, skip, skipBut, low, Row}
-use Rattle.classes.specs.Refusals.{elem}
+use Rattle.classes.specs.Row.{Pat, is, read, readBut, zeros, extra, skipBut, low, Row}
+use Rattle.laws.specs.Lists.{elem}
 
 -- bits hi..lo of a word, as the number that has them set
 abbrev pub run : ℕ → ℕ → ℕ
@@ -27,15 +27,16 @@ SA = run 10 6
 
 -- without `rotr`, which has rs 1
 abbrev pub shiftsByConstant : List ℕ
-shiftsByConstant = kind.sll ∷ kind.srl ∷ kind.sra ∷ kind.dsll ∷ kind.dsrl ∷ kind.dsra ∷ kind.dsll32 ∷ kind.dsrl32 ∷ kind.dsra32 ∷ []
+shiftsByConstant =
+    kind.sll ∷ kind.srl ∷ kind.sra ∷ kind.dsll ∷ kind.dsrl ∷ kind.dsra ∷ kind.dsll32 ∷ kind.dsrl32 ∷ kind.dsra32 ∷ []
 
 abbrev pub variableShifts : List ℕ
 variableShifts = kind.sllv ∷ kind.srlv ∷ kind.srav ∷ kind.dsllv ∷ kind.dsrlv ∷ kind.dsrav ∷ []
 
 abbrev pub threeRegisterWords : List ℕ
 threeRegisterWords =
-    kind.movz ∷ kind.movn ∷ kind.add ∷ kind.addu ∷ kind.sub ∷ kind.subu ∷ kind.and ∷ kind.or ∷ kind.xor ∷ kind.nor ∷ kind.slt ∷
-    kind.sltu ∷ kind.dadd ∷ kind.daddu ∷ kind.dsub ∷ kind.dsubu ∷ kind.mul ∷ []
+    kind.movz ∷ kind.movn ∷ kind.add ∷ kind.addu ∷ kind.sub ∷ kind.subu ∷ kind.and ∷ kind.or ∷ kind.xor ∷ kind.nor ∷
+    kind.slt ∷ kind.sltu ∷ kind.dadd ∷ kind.daddu ∷ kind.dsub ∷ kind.dsubu ∷ kind.mul ∷ []
 
 abbrev pub multiplyDivide : List ℕ
 multiplyDivide =
@@ -53,10 +54,14 @@ bc1Words = kind.bc1f ∷ kind.bc1t ∷ kind.bc1fl ∷ kind.bc1tl ∷ []
 -- COP1 funct 4 to 7, 13, 32, 33, 36, 37, in the four formats
 abbrev pub oneSourceCop1 : List ℕ
 oneSourceCop1 =
-    kind.sqrt-s ∷ kind.abs-s ∷ kind.mov-s ∷ kind.neg-s ∷ kind.trunc-w-s ∷ kind.cvt-s-s ∷ kind.cvt-d-s ∷ kind.cvt-w-s ∷ kind.cvt-l-s ∷
-    kind.sqrt-d ∷ kind.abs-d ∷ kind.mov-d ∷ kind.neg-d ∷ kind.trunc-w-d ∷ kind.cvt-s-d ∷ kind.cvt-d-d ∷ kind.cvt-w-d ∷ kind.cvt-l-d ∷
-    kind.sqrt-w ∷ kind.abs-w ∷ kind.mov-w ∷ kind.neg-w ∷ kind.trunc-w-w ∷ kind.cvt-s-w ∷ kind.cvt-d-w ∷ kind.cvt-w-w ∷ kind.cvt-l-w ∷
-    kind.sqrt-l ∷ kind.abs-l ∷ kind.mov-l ∷ kind.neg-l ∷ kind.trunc-w-l ∷ kind.cvt-s-l ∷ kind.cvt-d-l ∷ kind.cvt-w-l ∷ kind.cvt-l-l ∷
+    kind.sqrt-s ∷ kind.abs-s ∷ kind.mov-s ∷ kind.neg-s ∷
+    kind.trunc-w-s ∷ kind.cvt-s-s ∷ kind.cvt-d-s ∷ kind.cvt-w-s ∷ kind.cvt-l-s ∷
+    kind.sqrt-d ∷ kind.abs-d ∷ kind.mov-d ∷ kind.neg-d ∷
+    kind.trunc-w-d ∷ kind.cvt-s-d ∷ kind.cvt-d-d ∷ kind.cvt-w-d ∷ kind.cvt-l-d ∷
+    kind.sqrt-w ∷ kind.abs-w ∷ kind.mov-w ∷ kind.neg-w ∷
+    kind.trunc-w-w ∷ kind.cvt-s-w ∷ kind.cvt-d-w ∷ kind.cvt-w-w ∷ kind.cvt-l-w ∷
+    kind.sqrt-l ∷ kind.abs-l ∷ kind.mov-l ∷ kind.neg-l ∷
+    kind.trunc-w-l ∷ kind.cvt-s-l ∷ kind.cvt-d-l ∷ kind.cvt-w-l ∷ kind.cvt-l-l ∷
     []
 
 abbrev pub comparesCop1 : List ℕ
@@ -109,11 +114,13 @@ unfoldable pub unreadAt : Pat → ℕ → ℕ → ℕ
 unreadAt (is v) hi lo = 0
 unreadAt read hi lo = 0
 unreadAt (readBut v) hi lo = 0
-unreadAt (skip y) hi lo = run hi lo
+unreadAt zeros hi lo = run hi lo
+unreadAt extra hi lo = run hi lo
 unreadAt (skipBut v) hi lo = run hi lo
 unreadAt (low v) hi lo = run hi (lo + 2)
 
 unfoldable pub unreadBy : Row → ℕ
 unreadBy r =
-    unreadAt (r .pop) 31 26 + unreadAt (r .prs) 25 21 + unreadAt (r .prt) 20 16 + unreadAt (r .prd) 15 11 + unreadAt (r .psa) 10 6
-    + unreadAt (r .pfn) 5 0
+    unreadAt (r .pop) 31 26 + unreadAt (r .prs) 25 21 + unreadAt (r .prt) 20 16 + unreadAt (r .prd) 15 11
+    + unreadAt (r .psa) 10 6
+    + unreadAt (r .pfunct) 5 0

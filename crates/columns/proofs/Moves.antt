@@ -1,5 +1,4 @@
 -- A part that is moved to the start, byte by byte.
--- Assumes nothing.
 use mathlib.Core.Path.{_≡_, sym, ap, _∙_}
 use mathlib.Core.List.{List, _++_}
 use Prim.Native.Nat.{ℕ, suc, _+_, _-_, min, _<_, _≤_}

@@ -1,5 +1,4 @@
--- A LINE BY ITS COLUMNS, over its bytes in ASCII: the form that it has, and the numbers that stand in it.
--- Assumes nothing.
+-- A LINE BY ITS COLUMNS, over its bytes in ASCII: the form that it has, and the numbers in it.
 use Prim.Native.Nat.{ℕ, _+_, _*_, _-_}
 use mathlib.Core.Bool.{Bool, true, false, _&&_, _||_, cond}
 use mathlib.Core.List.{List, [], _∷_}
@@ -24,7 +23,7 @@ isLetter b = between 97 b 102
 unfoldable pub allows : ℕ → ℕ → Bool
 allows f b = cond (eqb f 104) (isDecimal b || isLetter b) (cond (eqb f 98) (eqb b 48 || eqb b 49) (eqb b f))
 
--- the line begins in bytes that the letters allow, one by one; a line that is shorter than the form does not
+-- the line begins with bytes that the letters allow, one by one; a line that is shorter than the form does not
 unfoldable pub hasForm : List ℕ → List ℕ → Bool
 hasForm [] line = true
 hasForm (f ∷ fs) [] = false
@@ -32,7 +31,7 @@ hasForm (f ∷ fs) (b ∷ bs) = allows f b && hasForm fs bs
 
 -- ── numbers ──
 
--- the value of a hex digit; 0 for a byte that is none
+-- the value of a hex digit; 0 for any other byte
 unfoldable pub digitOf : ℕ → ℕ
 digitOf b = cond (isDecimal b) (b - 48) (cond (isLetter b) (b - 97 + 10) 0)
 

@@ -1,12 +1,11 @@
 -- LINES IN A BUFFER, over its bytes: where a line ends, and a part that is moved to the start.
--- Assumes nothing.
 use Prim.Native.Nat.{ℕ, suc, _+_}
 use mathlib.Core.Bool.{cond}
 use mathlib.Core.List.{List, [], _∷_, _++_}
 use lib.Dec.{leb, eqb}
 use lib.ListN.{length, take, drop}
 
--- how many bytes stand before the first newline; all of them where there is none
+-- how many bytes are before the first newline; all of them where there is none
 unfoldable pub lineLength : List ℕ → ℕ
 lineLength [] = 0
 lineLength (b ∷ bs) = cond (eqb b 10) 0 (suc (lineLength bs))

@@ -1,5 +1,6 @@
-// A line of text taken apart by its columns, and lines in a buffer. Stands on nothing.
-// Every function takes any bytes and any places: a number whose columns are not all there is 0, and past the end nothing is found or moved.
+// A line of text taken apart by its columns, and lines in a buffer. Depends on nothing.
+// Every function takes any bytes and any places: a number whose columns are not all there is 0, and past the end
+// nothing is found or moved.
 ghost use mathlib.Core.Path.{_≡_};
 ghost use Prim.Native.Nat.{_+_, _-_, min, _≤_};
 ghost use lib.ListN.{length, take, drop};
@@ -44,7 +45,7 @@ fn is_allowed(form: u8, byte: u8) -> bool
     byte == form
 }
 
-// Does the line begin in bytes that the letters of the form allow: h a hex digit, b one of 0 and 1, every other letter itself?
+// Does the line match the form: h is a hex digit, b is 0 or 1, every other letter is itself?
 pub fn has_form(line: &[u8], form: &[u8]) -> bool
     ensures { λ r. ⌜ r ≡ hasForm (now (form .entry)) (now (line .entry)) ⌝ }
 {
@@ -63,21 +64,22 @@ pub fn has_form(line: &[u8], form: &[u8]) -> bool
 
 // ── numbers in columns ──
 
-fn wide(x: u8) -> u64
+// A byte as a number of 64 bits.
+fn widened(x: u8) -> u64
     ensures { λ r. ⌜ r ≡ x ⌝ }
 {
     x as u64
 }
 
-// The value of a hex digit, and 0 for a byte that is none.
+// The value of a hex digit, and 0 for any other byte.
 fn digit(byte: u8) -> u64
     ensures { λ r. ⌜ r ≡ digitOf byte ⌝ }
 {
     if is_between(b'0', byte, b'9') {
-        return wide(byte - b'0');
+        return widened(byte - b'0');
     }
     if is_between(b'a', byte, b'f') {
-        return wide(byte - b'a' + LETTER_A);
+        return widened(byte - b'a' + LETTER_A);
     }
     0
 }
@@ -95,7 +97,8 @@ fn number(line: &[u8], at: usize, digits: usize) -> u64
     value
 }
 
-// The number whose hex digits stand in so many columns from a place on; 0 where they are not all there, or more than sixteen.
+// The number whose hex digits are in this many columns from a place on; 0 if they are not all there, or if there are
+// more than sixteen.
 pub fn hex(line: &[u8], at: usize, digits: usize) -> u64
     ensures { λ r. ⌜ r ≡ hexAt at digits (now (line .entry)) ⌝ }
 {
@@ -134,7 +137,7 @@ pub fn line_end(s: &[u8], from: usize) -> usize
     s.len()
 }
 
-// How many places there are from one up to another, of so many.
+// How many of `size` places are from one up to another.
 fn part_size(size: usize, from: usize, to: usize) -> usize
     ensures { λ r. ⌜ r ≡ min to size - from ⌝ }
 {

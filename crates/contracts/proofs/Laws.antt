@@ -1,5 +1,4 @@
 -- How a contract fixes the answer: by equations, by a test, or by a theorem of its own.
--- Assumes nothing.
 use Prim.Native.Nat.{ℕ}
 use mathlib.Core.Path.{_≡_, refl, sym, _∙_}
 use mathlib.Core.Bool.{Bool, true, false}

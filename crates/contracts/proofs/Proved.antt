@@ -1,11 +1,11 @@
 -- The contract of every public function fixes its answer.
--- Assumes nothing.
 use mathlib.Core.Path.{refl}
 use Rattle.inverse.proofs.Proved.{theorems as encodings}
 use Rattle.calmuredda.specs.Boundary.{on}
 use Rattle.calmuredda.proofs.Proved.{theorems as boundary}
 use Rattle.contracts.specs.Word.{Word}
 use Rattle.contracts.specs.Reading.{Reading}
+use Rattle.contracts.specs.Forms.{Forms}
 use Rattle.contracts.specs.Decode.{Decode}
 use Rattle.contracts.specs.Encode.{Encode}
 use Rattle.contracts.specs.Buffers.{Buffers}
@@ -15,7 +15,9 @@ use Rattle.contracts.specs.Text.{Text}
 use Rattle.contracts.specs.Columns.{Columns}
 use Rattle.contracts.specs.Line.{Line}
 use Rattle.contracts.specs.Section.{Section}
-use Rattle.contracts.specs.Listing.{Listing}
+use Rattle.contracts.specs.Body.{Body}
+use Rattle.contracts.specs.Blocks.{Blocks}
+use Rattle.contracts.specs.Pages.{Pages}
 use Rattle.contracts.specs.Calmuredda.{Calmuredda}
 use Rattle.contracts.specs.Theorems.{Theorems}
 use Rattle.contracts.proofs.Laws.{same, same-test, determined, by-equation}
@@ -39,6 +41,7 @@ of-word =
       ins-size = by-equation (λ κs a v w. refl);
       from-le-bytes = by-equation (λ κs a v w. refl);
       from-be-bytes = by-equation (λ κs a v w. refl);
+      from-bytes = by-equation (λ κs a v w. refl);
     }
 
 of-reading : Reading
@@ -48,8 +51,15 @@ of-reading =
       effect-parts = by-equation (λ κs a v w. refl);
       target-parts = by-equation (λ κs a v w. refl);
       flow-number = by-equation (λ κs a v w. refl);
+      ends = by-equation (λ κs a v w. refl);
       refused = by-equation (λ κs a v w. refl);
       same-insn = determined (λ κs a x y v w p q. (same-test x y p q, refl));
+    }
+
+of-forms : Forms
+of-forms =
+    record {
+      read = by-equation (λ κs a v w. refl);
     }
 
 of-decode : Decode
@@ -57,7 +67,6 @@ of-decode =
     record {
       decode = by-equation (λ κs a v w. refl);
       decode-word = by-equation (λ κs a v w. refl);
-      word-in = by-equation (λ κs a v w. refl);
     }
 
 of-encode : Encode
@@ -131,11 +140,23 @@ of-section =
       start = by-equation (λ κs a v w. refl);
     }
 
-of-listing : Listing
-of-listing =
+of-body : Body
+of-body =
     record {
-      refused = by-equation (λ κs a v w. refl);
-      block = by-equation (λ κs a v w. refl);
+      view-of = by-equation (λ κs a v w. refl);
+      count = by-equation (λ κs a v w. refl);
+      address = by-equation (λ κs a v w. refl);
+      decoded = by-equation (λ κs a v w. refl);
+      word = by-equation (λ κs a v w. refl);
+      refusals = by-equation (λ κs a v w. refl);
+    }
+
+of-blocks : Blocks
+of-blocks = record { block = by-equation (λ κs a v w. refl) }
+
+of-pages : Pages
+of-pages =
+    record {
       page = determined (λ κs a x y v w p q. (same (p .0) (q .0), λ i. (tt, (tt, (tt, (same (p .1) (q .1) i, (tt, tt)))))));
     }
 
@@ -150,8 +171,31 @@ of-calmuredda =
       section-flags = by-equation (λ κs a v w. refl);
       section-address = by-equation (λ κs a v w. refl);
       section-body = determined (λ κs a x y v w p q. (same (p .0) (q .0), λ i. (tt, (tt, (same (p .1 .0) (q .1 .0) i, (same (p .1 .1) (q .1 .1) i, tt))))));
-      block = determined (λ κs a x y v w p q. (same (p .0) (q .0), λ i. (tt, (tt, (tt, (tt, (tt, (same (p .1 .0) (q .1 .0) i, (same (p .1 .1) (q .1 .1) i, tt)))))))));
-      page = determined (λ κs a x y v w p q. (same (p .0) (q .0), λ i. (tt, (tt, (tt, (tt, (tt, (same (p .1 .1 .1) (q .1 .1 .1) i, (tt, (same (p .1 .0) (q .1 .0) i, (same (p .1 .1 .0) (q .1 .1 .0) i, tt)))))))))));
+      block =
+          determined
+          (λ κs a x y v w p q.
+          (same (p .0) (q .0), λ i. (tt, (tt, (tt, (tt, (same (p .1 .0) (q .1 .0) i, (same (p .1 .1) (q .1 .1) i, tt))))))));
+      page =
+          determined
+          (λ κs a x y v w p q. (
+            same (p .0) (q .0),
+            λ i. (
+              tt,
+              (
+                tt,
+                (
+                  tt,
+                  (
+                    tt,
+                    (
+                      same (p .1 .1 .1) (q .1 .1 .1) i,
+                      (tt, (same (p .1 .0) (q .1 .0) i, (same (p .1 .1 .0) (q .1 .1 .0) i, tt))),
+                    ),
+                  ),
+                ),
+              ),
+            ),
+          ));
     }
 
 pub theorems : Theorems
@@ -159,6 +203,7 @@ theorems =
     record {
       in-word = of-word;
       in-reading = of-reading;
+      in-forms = of-forms;
       in-decode = of-decode;
       in-encode = of-encode;
       in-buffers = of-buffers;
@@ -168,6 +213,8 @@ theorems =
       in-columns = of-columns;
       in-line = of-line;
       in-section = of-section;
-      in-listing = of-listing;
+      in-body = of-body;
+      in-blocks = of-blocks;
+      in-pages = of-pages;
       in-calmuredda = of-calmuredda;
     }

@@ -1,5 +1,4 @@
 -- The contracts of crate `buffers`, lent bytes.
--- Assumes nothing.
 use Rattle.contracts.specs.Exact.{Exact}
 use Rattle.buffers.proofs.put.Kinds as put-kinds
 use Rattle.buffers.proofs.put.Reads as put

@@ -1,5 +1,4 @@
 -- The contracts of crate `columns`, lines in columns.
--- Assumes nothing.
 use Rattle.contracts.specs.Exact.{Exact}
 use Rattle.columns.proofs.has_form.Kinds as has-form-kinds
 use Rattle.columns.proofs.has_form.Reads as has-form

@@ -1,5 +1,4 @@
 -- The contracts of crate `encode`, the encoder.
--- Assumes nothing.
 use Rattle.contracts.specs.Exact.{Exact}
 use Rattle.encode.proofs.encode.Kinds as encode-kinds
 use Rattle.encode.proofs.encode.Reads as encode

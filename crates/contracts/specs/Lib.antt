@@ -1,6 +1,7 @@
 pub mod Exact
 pub mod Word
 pub mod Reading
+pub mod Forms
 pub mod Decode
 pub mod Encode
 pub mod Buffers
@@ -10,7 +11,9 @@ pub mod Text
 pub mod Columns
 pub mod Line
 pub mod Section
-pub mod Listing
+pub mod Body
+pub mod Blocks
+pub mod Pages
 pub mod Calmuredda
 pub mod Theorems
 pub mod Attacks

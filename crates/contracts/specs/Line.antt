@@ -1,5 +1,4 @@
 -- The contracts of crate `line`, the printed line.
--- Assumes nothing.
 use Rattle.contracts.specs.Exact.{Exact}
 use Rattle.line.proofs.print.Kinds as print-kinds
 use Rattle.line.proofs.print.Reads as print

@@ -1,5 +1,4 @@
 -- The contracts of crate `names`, names.
--- Assumes nothing.
 use Rattle.contracts.specs.Exact.{Exact}
 use Rattle.names.proofs.register.Kinds as register-kinds
 use Rattle.names.proofs.register.Reads as register

@@ -1,5 +1,4 @@
 -- The contracts of crate `record`, the packed record.
--- Assumes nothing.
 use Rattle.contracts.specs.Exact.{Exact}
 use Rattle.record.proofs.pack.Kinds as pack-kinds
 use Rattle.record.proofs.pack.Reads as pack

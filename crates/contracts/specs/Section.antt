@@ -1,5 +1,4 @@
 -- The contracts of crate `section`, the section file.
--- Assumes nothing.
 use Rattle.contracts.specs.Exact.{Exact, ExactTo, seen}
 use Rattle.section.proofs.check.Kinds as check-kinds
 use Rattle.section.proofs.check.Reads as check

@@ -1,5 +1,4 @@
 -- The contracts of crate `text`, numbers and names as text.
--- Assumes nothing.
 use Rattle.contracts.specs.Exact.{Exact}
 use Rattle.text.proofs.count.Kinds as count-kinds
 use Rattle.text.proofs.count.Reads as count

@@ -1,16 +1,18 @@
 -- Fewer than four bytes, and four or more.
--- Assumes nothing.
 use Prim.Native.Nat.{ℕ, _<_, _≤_}
 use mathlib.Core.Path.{_≡_, refl}
 use mathlib.Core.Bool.{Bool}
 use mathlib.Core.List.{List, [], _∷_}
 use native.Mathlib.Omega.{arith}
 use lib.ListN.{length, getD}
+use Rattle.refusal.specs.Numbers as refusal
+use Rattle.word.specs.Numbers.{wordIn}
 use Rattle.reading.specs.Reading.{refusedOf}
 use Rattle.classes.specs.Decoded.{decodedOf}
-use Rattle.decode.specs.Bytes.{wordIn, decodedIn}
+use Rattle.decode.specs.Bytes.{decodedIn}
 
-pub too-short : (l : List ℕ) (va : ℕ) (big wide : Bool) → length l < 4 → refusedOf 1 ≡ decodedIn l va big wide
+pub too-short : (l : List ℕ) (va : ℕ) (big wide : Bool) → length l < 4 →
+    refusedOf refusal.short ≡ decodedIn l va big wide
 too-short [] va big wide h = refl
 too-short (a ∷ []) va big wide h = refl
 too-short (a ∷ b ∷ []) va big wide h = refl

@@ -1,5 +1,4 @@
 -- An entry of the acceptance table that refuses every word of which these facts are known.
--- Assumes nothing.
 use Prim.Native.Nat.{ℕ, _+_, _≤_}
 use mathlib.Core.Path.{_≡_, refl, subst}
 use mathlib.Core.Bool.{Bool, true, false, not, cond, _&&_}
@@ -8,8 +7,9 @@ use mathlib.Core.Option.{Option, none, some, Option·none-ne-some, Option·some-
 use native.Mathlib.Omega.{arith}
 use lib.Dec.{T}
 use Rattle.word.specs.Word.{Fields, Fit}
-use Rattle.classes.specs.Refusals.{Test, _one-of_, _none-of_, elem, holds, Refusal, meets, refusal}
-use Rattle.classes.proofs.Tests.{and-l, and-r, and-i, at-true}
+use Rattle.laws.specs.Lists.{elem}
+use Rattle.classes.specs.Refusals.{Test, _one-of_, _none-of_, holds, Refusal, meets, refusal}
+use Rattle.laws.proofs.Tests.{and-l, and-r, and-i, at-true}
 use Rattle.classes.proofs.Boxes.{bit, refusing}
 use Rattle.decode.proofs.Facts.{Fact, Known, sure, sure-holds}
 

@@ -1,5 +1,4 @@
 -- What an arm of the decoder knows of a word's fields, and the values that a field can still have.
--- Assumes nothing.
 use Prim.Native.Nat.{ℕ, _%_}
 use mathlib.Core.Path.{_≡_, refl, sym, _∙_, ap, subst}
 use mathlib.Core.Bool.{Bool, true, false, not, _&&_, _||_}
@@ -9,8 +8,8 @@ use borrow.Author.Tests.{eqb-true, eq-eqb, ne-eqb}
 use lib.Dec.{T, eqb}
 use Rattle.word.specs.Word.{Field, sameField, Field-discrete, Fields, room, Fit}
 use Rattle.classes.specs.Meaning.{nopLike}
-use Rattle.classes.specs.Refusals.{elem}
-use Rattle.classes.proofs.Tests.{allBelow, below, and-i, implied, at-true}
+use Rattle.laws.specs.Lists.{elem}
+use Rattle.laws.proofs.Tests.{allBelow, below, and-i, implied, at-true}
 use Rattle.decode.specs.Private.Groups.{NoneOf}
 
 -- ── facts ──

@@ -1,5 +1,4 @@
 -- The four formats of COP1: each has the same arms, with mnemonics so far on.
--- Assumes nothing.
 use Prim.Native.Nat.{ℕ, _+_, _≤_}
 use mathlib.Core.Path.{_≡_, refl, sym, _∙_, ap}
 use mathlib.Core.Bool.{Bool, true}
@@ -8,21 +7,22 @@ use mathlib.Core.Logic.{_⊎_, inl, inr}
 use mathlib.Core.Option.{Option, none, some, Option·none-ne-some, Option·some-injective}
 use lib.Dec.{leb}
 use borrow.Author.Tests.{leb-true}
-use Rattle.word.specs.Word.{fieldsOf, op, rs, fn}
+use Rattle.word.specs.Word.{fieldsOf, op, rs, funct}
 use Rattle.reading.specs.declared.Decoded.{Decoded}
 use Rattle.reading.specs.Kind as kind
-use Rattle.reading.specs.Reading.{refusedOf}
-use Rattle.classes.specs.Row.{Form, Control, plain, Change, nothing, Row}
-use Rattle.classes.specs.Table.{fd-fs-ft, fd-fs, fs-ft}
+use Rattle.reading.specs.Reading.{acceptedAs}
+use Rattle.classes.specs.Row.{Form, Manner, Row}
+use Rattle.classes.specs.Table.{fd-fs-ft, fd-fs, fs-ft, acts}
 use Rattle.classes.specs.Meaning.{outs, reading, meaning}
-use Rattle.classes.specs.Decoded.{acceptedAs, decodedOf}
-use Rattle.decode.specs.declared.class.FloatOps.{FloatOps}
-use Rattle.decode.specs.declared.class.FloatOps.the-variants.{FdFsFt, FdFs, FsFt}
-use Rattle.decode.specs.declared.class.FloatPair.{FloatPair}
-use Rattle.decode.specs.Private.Answer.{columns}
-use Rattle.decode.specs.Private.Groups.{NoneOf, Behind, single, double, word, long, Format}
+use Rattle.decode.specs.declared.FloatOps.{FloatOps}
+use Rattle.decode.specs.declared.FloatOps.the-variants.{FdFsFt, FdFs, FsFt}
+use Rattle.decode.specs.declared.FloatPair.{FloatPair}
+use Rattle.forms.specs.declared.Shape.{Shape}
+use Rattle.forms.specs.declared.Shape.the-variants as shape
+use Rattle.forms.specs.Read.{readBy}
+use Rattle.decode.specs.Private.Groups.{Is, NoneOf, Behind, single, double, word, long, Format}
 use Rattle.decode.proofs.Facts.{Fact, _≐_, _noneOf_, Known}
-use Rattle.decode.proofs.Arms.{rowBy, numberBy, accepts, refuses}
+use Rattle.decode.proofs.Arms.{rowBy, numberBy, accepts, left-over}
 
 -- ── the arms ──
 
@@ -76,10 +76,10 @@ low k p h = leb-true (p .0) 207 (same-at (λ (a : Arm). leb (a .1 .0) 207) (λ (
 -- ── in a format ──
 
 abbrev Columns : Type 0
-Columns = ℕ × (Form × (Control × Change))
+Columns = ℕ × (Form × Manner)
 
 abbrev columnsOf : Row → Columns
-columnsOf r = (r .kind, (r .form, (r .control, r .change)))
+columnsOf r = (r .kind, (r .form, r .manner))
 
 abbrev shown : Option Row → Option Columns
 shown none = none
@@ -92,10 +92,10 @@ formOf FsFt = fs-ft
 
 -- what the table has for an arm, and what the arm answers
 abbrev has : ℕ → Bool → Arm → Option Columns
-has s wide a = shown (rowBy (op ≐ 17 ∷ rs ≐ s ∷ fn ≐ a .0 ∷ []) wide)
+has s wide a = shown (rowBy (op ≐ 17 ∷ rs ≐ s ∷ funct ≐ a .0 ∷ []) wide)
 
 abbrev answers : ℕ → Arm → Option Columns
-answers f a = some (a .1 .0 + f, (formOf (a .1 .1), (plain, nothing)))
+answers f a = some (a .1 .0 + f, (formOf (a .1 .1), acts))
 
 agree : (s f : ℕ) → Behind s f → (wide : Bool) → map (has s wide) arms ≡ map (answers f) arms
 unfolding rowBy
@@ -105,7 +105,7 @@ agree s f (word i j) wide = rw (i, j)
 agree s f (long i j) wide = rw (i, j)
 
 -- and for what they leave
-refused : (s f : ℕ) → Behind s f → numberBy (op ≐ 17 ∷ rs ≐ s ∷ fn noneOf functs ∷ []) ≡ some 6
+refused : (s f : ℕ) → Behind s f → numberBy (op ≐ 17 ∷ rs ≐ s ∷ funct noneOf functs ∷ []) ≡ some 6
 unfolding numberBy
 refused s f (single i j) = rw i
 refused s f (double i j) = rw i
@@ -116,38 +116,49 @@ refused s f (long i j) = rw i
 
 -- the reading with these columns
 abbrev readingOf : ℕ → ℕ → Columns → Decoded
-readingOf w va c = acceptedAs (reading (c .0) (c .1 .1 .0) (c .1 .1 .1) (outs (c .1 .0) va (fieldsOf w)))
+readingOf w va c = acceptedAs (reading (c .0) (c .1 .1) (outs (c .1 .0) va (fieldsOf w)))
 
 meaning-is : (r : Row) (w va : ℕ) → acceptedAs (meaning r va (fieldsOf w)) ≡ readingOf w va (columnsOf r)
 unfolding meaning
 meaning-is r w va = refl
 
-by-columns : (ks : List Fact) (w va : ℕ) (wide : Bool) (n : ℕ) (φ : Form) → Known (fieldsOf w) ks →
-    shown (rowBy ks wide) ≡ some (n, (φ, (plain, nothing))) → columns n φ plain nothing w va ≡ decodedOf w va wide
-by-columns ks w va wide n φ h e = go (rowBy ks wide) refl e
-  where
-    go : (o : Option Row) → rowBy ks wide ≡ o → shown o ≡ some (n, (φ, (plain, nothing))) → columns n φ plain nothing w va ≡ decodedOf w va wide
-    go none q s = absurd (Option·none-ne-some (n, (φ, (plain, nothing))) s)
-    go (some r) q s =
-        accepts ks w va wide h q
-        (sym (meaning-is r w va ∙ ap (readingOf w va) (Option·some-injective (columnsOf r) (n, (φ, (plain, nothing))) s)))
+-- the shape with this mnemonic and these operands
+abbrev pub shapeOf : ℕ → FloatOps → Shape
+shapeOf n FdFsFt = shape.FdFsFt n
+shapeOf n FdFs = shape.FdFs n
+shapeOf n FsFt = shape.FsFt n
 
-module _ (f w va : ℕ) (wide : Bool) (h : Format f w) where
+reads-columns : (n : ℕ) (ops : FloatOps) (w va : ℕ) → readBy (shapeOf n ops) w va ≡ readingOf w va (n, (formOf ops, acts))
+reads-columns n FdFsFt w va = refl
+reads-columns n FdFs w va = refl
+reads-columns n FsFt w va = refl
+
+by-columns : (ks : List Fact) (w : ℕ) (wide : Bool) (n : ℕ) (ops : FloatOps) → Known (fieldsOf w) ks →
+    shown (rowBy ks wide) ≡ some (n, (formOf ops, acts)) → Is (shapeOf n ops) w wide
+by-columns ks w wide n ops h e = go (rowBy ks wide) refl e
+  where
+    go : (o : Option Row) → rowBy ks wide ≡ o → shown o ≡ some (n, (formOf ops, acts)) → Is (shapeOf n ops) w wide
+    go none q s = absurd (Option·none-ne-some (n, (formOf ops, acts)) s)
+    go (some r) q s =
+        let same : columnsOf r ≡ (n, (formOf ops, acts)) = Option·some-injective (columnsOf r) (n, (formOf ops, acts)) s in
+        record {
+          reads = λ va. accepts ks w va wide h q (reads-columns n ops w va ∙ sym (meaning-is r w va ∙ ap (readingOf w va) same));
+        }
+
+module _ (f w : ℕ) (wide : Bool) (h : Format f w) where
   -- its fmt and its funct
   abbrev s : ℕ
   s = fieldsOf w rs
 
   abbrev k : ℕ
-  k = fieldsOf w fn
+  k = fieldsOf w funct
 
   -- for the arms: by the format that the word has
-  pub in-format : (p : FloatPair) → Picked arms (fieldsOf w fn) p →
-      columns (p .0 + f) (formOf (p .1)) plain nothing w va ≡ decodedOf w va wide
+  pub in-format : (p : FloatPair) → Picked arms (fieldsOf w funct) p → Is (shapeOf (p .0 + f) (p .1)) w wide
   in-format p picked =
-      by-columns (op ≐ 17 ∷ rs ≐ s ∷ fn ≐ k ∷ []) w va wide (p .0 + f) (formOf (p .1)) (h .0, (refl, (refl, tt)))
+      by-columns (op ≐ 17 ∷ rs ≐ s ∷ funct ≐ k ∷ []) w wide (p .0 + f) (p .1) (h .0, (refl, (refl, tt)))
       (same-at (has s wide) (answers f) arms k p (agree s f (h .1) wide) picked)
 
   -- and for what they leave
-  pub in-no-format : NoneOf (fieldsOf w fn) functs → refusedOf 6 ≡ decodedOf w va wide
-  in-no-format e =
-      refuses (op ≐ 17 ∷ rs ≐ s ∷ fn noneOf functs ∷ []) w va wide (h .0, (refl, (e, tt))) (refused s f (h .1)) tt refl
+  pub in-no-format : NoneOf (fieldsOf w funct) functs → Is (shape.Refused 6) w wide
+  in-no-format e = left-over (op ≐ 17 ∷ rs ≐ s ∷ funct noneOf functs ∷ []) (h .0, (refl, (e, tt))) (refused s f (h .1)) tt

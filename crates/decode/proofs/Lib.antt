@@ -2,6 +2,5 @@ pub mod Facts
 pub mod Rows
 pub mod Entries
 pub mod Arms
-pub mod Flags
 pub mod Formats
 pub mod Bytes

@@ -1,5 +1,4 @@
 -- A row that takes every word of which these facts are known: found by trying the values that the fields can still have.
--- Assumes nothing.
 use Prim.Native.Nat.{_≤_, _%_}
 use mathlib.Core.Path.{_≡_, refl, sym, ap, subst}
 use mathlib.Core.Bool.{Bool, true, false, not, _&&_, _||_}
@@ -8,10 +7,11 @@ use mathlib.Core.Logic.{_⊎_, inl, inr}
 use mathlib.Core.Option.{Option, none, some, Option·none-ne-some, Option·some-injective}
 use lib.Dec.{T, eqb}
 use Rattle.word.specs.Word.{Field, Fields, Fit}
-use Rattle.classes.specs.Row.{Pat, is, read, readBut, skip, skipBut, low, Row, patOf}
+use Rattle.classes.specs.Row.{Pat, is, read, readBut, zeros, extra, skipBut, low, Row, patOf}
 use Rattle.classes.specs.Meaning.{match, six, nopLike, takes, find}
 use Rattle.classes.specs.Theorems.{taking}
-use Rattle.classes.proofs.Tests.{and-l, and-r, six-at, six-make, and-i, at-true}
+use Rattle.laws.proofs.Tests.{and-l, and-r, and-i, at-true}
+use Rattle.classes.proofs.Tests.{six-at, six-make}
 use Rattle.classes.proofs.Find.{In, only-row}
 use Rattle.decode.proofs.Facts.{Fact, _≐_, _≠_, _noneOf_, _lowIs_, _lowNoneOf_, busy, Known, sure, sure-holds}
 
@@ -21,7 +21,8 @@ unfoldable pub surely : List Fact → Field → Pat → Bool
 surely ks x (is v) = sure ks x (λ a. eqb a v)
 surely ks x read = true
 surely ks x (readBut v) = sure ks x (λ a. not (eqb a v))
-surely ks x (skip y) = true
+surely ks x zeros = true
+surely ks x extra = true
 surely ks x (skipBut v) = sure ks x (λ a. not (eqb a v))
 surely ks x (low v) = sure ks x (λ a. eqb (a % 4) v)
 
@@ -30,7 +31,8 @@ unfolding surely match
 surely-match ks f h i x (is v) t = sure-holds ks f h i x (λ a. eqb a v) t
 surely-match ks f h i x read t = tt
 surely-match ks f h i x (readBut v) t = sure-holds ks f h i x (λ a. not (eqb a v)) t
-surely-match ks f h i x (skip y) t = tt
+surely-match ks f h i x zeros t = tt
+surely-match ks f h i x extra t = tt
 surely-match ks f h i x (skipBut v) t = sure-holds ks f h i x (λ a. not (eqb a v)) t
 surely-match ks f h i x (low v) t = sure-holds ks f h i x (λ a. eqb (a % 4) v) t
 

@@ -1,4 +1,2 @@
 -- What private functions promise each other. No public contract cites these files; nobody need believe them.
-pub mod Answer
-pub mod Class
 pub mod Groups

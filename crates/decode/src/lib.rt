@@ -1,37 +1,26 @@
 // mips.rs: `decode`, `decode_word` and `decode_cop1`, arm by arm, with a function for each group of words.
-// An arm names the class of the word (`class`); the source's closures and its `i` make the reading of it (`forms`).
-// Stands on `word` and `reading`; what the answers mean is defined in `classes`.
+// An arm names the shape of the word, and `forms` reads the word by its shape, as the source's closures and its `i` do.
+// Depends on `word`, `reading` and `forms`; what the answers mean is defined in `classes`.
 ghost use Prim.Native.Nat.{_≤_};
 ghost use mathlib.Core.Path.{_≡_};
 ghost use mathlib.Core.List.{[], _∷_};
 ghost use Rattle.word.specs.Word as word;
 ghost use Rattle.word.specs.Word.{fieldsOf};
 ghost use Rattle.classes.specs.Decoded.{decodedOf};
-ghost use Rattle.decode.specs.Bytes.{wordIn, decodedIn};
-ghost use Rattle.decode.specs.Private.Groups.{Is, Each, EachHanded, Group, Handed, Special, Format, grouped, branches, immediates, shifts, moves, arithmetics};
-
-mod class;
-mod forms;
-
-use class::Class;
-use class::FloatOps;
-use class::FloatPair;
+ghost use Rattle.decode.specs.Bytes.{decodedIn};
+ghost use Rattle.decode.specs.Private.Groups.{Is, Each, EachHanded, Group, Handed, Special, Format};
+ghost use Rattle.decode.specs.Private.Groups.{grouped, branches, immediates, shifts, moves, arithmetics};
+use forms::Shape;
 use reading::Decoded;
 use reading::Flow;
 use reading::kind;
-use reading::refusal;
 
 // Words that the source compares with as a whole.
 const NOP: u32 = 0;
 
 const SSNOP: u32 = 0x40;
 
-// The immediate as `imm` or as `uimm`.
-const SIGNED: bool = true;
-
-const UNSIGNED: bool = false;
-
-// How far the mnemonics of a format stand behind those of format s.
+// The distance of a format's mnemonics from those of format s.
 const S: u8 = 0;
 
 const D: u8 = kind::ADD_D - kind::ADD_S;
@@ -41,72 +30,29 @@ const W: u8 = kind::ADD_W - kind::ADD_S;
 const L: u8 = kind::ADD_L - kind::ADD_S;
 
 // Decodes the instruction word at the start of `bytes`.
+//
+// This and `decode_word` both read by the shape: with two callers `forms::read` and `shape_of` stay functions of their
+// own, and an answer is written once, where the caller wants it (docs/BENCH.md).
 pub fn decode(bytes: &[u8], va: u64, big_endian: bool, bits64: bool) -> Decoded
     ensures { λ r. ⌜ r ≡ decodedIn (now (bytes .entry)) va «big_endian» bits64 ⌝ }
 {
     if bytes.len() < 4 {
         return reading::refused(refusal::SHORT);
     }
-    let b = [bytes[0], bytes[1], bytes[2], bytes[3]];
-    decode_word(word_in(b, big_endian), va, bits64)
+    let w = word::from_bytes([bytes[0], bytes[1], bytes[2], bytes[3]], big_endian);
+    forms::read(shape_of(w, bits64), w, va)
 }
 
-// The word that four bytes are.
-pub fn word_in(b: [u8; 4], big_endian: bool) -> u32
-    ensures { λ r. ⌜ r ≡ wordIn «big_endian» b ⌝ }
-{
-    if big_endian {
-        word::from_be_bytes(b)
-    } else {
-        word::from_le_bytes(b)
-    }
-}
-
-// The class of the word, and what the class reads. Each arm returns by itself: where the arms meet, their answers would be moved piece by
-// piece, which costs as much again as all the rest (docs/BENCH.md).
+// The shape of the word, and what the shape reads.
 pub fn decode_word(w: u32, va: u64, bits64: bool) -> Decoded
     ensures { λ r. ⌜ r ≡ decodedOf w va bits64 ⌝ }
 {
-    let c = class_of(w, bits64);
-    match c {
-        Class::Refused(n) => return reading::refused(n),
-        Class::Alone(m, flow) => return forms::alone(m, flow),
-        Class::R3(m) => return forms::r3(m, w),
-        Class::ShiftVariable(m) => return forms::shift_variable(m, w),
-        Class::Shift(m) => return forms::shift(m, w),
-        Class::RdRs(m) => return forms::rd_rs(m, w),
-        Class::RdRt(m) => return forms::rd_rt(m, w),
-        Class::RsRt(m) => return forms::rs_rt(m, w),
-        Class::Mfhi(m) => return forms::mfhi(m, w),
-        Class::Mthi(m) => return forms::mthi(m, w),
-        Class::Jr => return forms::jr(w),
-        Class::Jalr => return forms::jalr(w),
-        Class::Jump(m, flow) => return forms::jump(m, flow, w, va),
-        Class::Branch(m, flow) => return forms::branch(m, flow, w, va),
-        Class::BranchRs(m, flow) => return forms::branch_rs(m, flow, w, va),
-        Class::BranchRsRt(m, flow) => return forms::branch_rs_rt(m, flow, w, va),
-        Class::AddImm(m, signed) => return forms::add_imm(m, signed, w),
-        Class::WriteImm(m, signed) => return forms::write_imm(m, signed, w),
-        Class::Li(signed) => return forms::li(signed, w),
-        Class::Lui => return forms::lui(w),
-        Class::Cop0(m, writes) => return forms::cop0(m, writes, w),
-        Class::BitField(m, inserts) => return forms::bit_field(m, inserts, w),
-        Class::Rdhwr => return forms::rdhwr(w),
-        Class::Cop1(m, writes) => return forms::cop1(m, writes, w),
-        Class::FdFsFt(m) => return forms::fd_fs_ft(m, w),
-        Class::FdFs(m) => return forms::fd_fs(m, w),
-        Class::FsFt(m) => return forms::fs_ft(m, w),
-        Class::Load(m, size) => return forms::load(m, size, w),
-        Class::Store(m, size) => return forms::store(m, size, w),
-        Class::StoreConditional(m) => return forms::store_conditional(m, w),
-        Class::FloatMem(m, size) => return forms::float_mem(m, size, w),
-        Class::HintMem(m) => return forms::hint_mem(m, w),
-    }
+    forms::read(shape_of(w, bits64), w, va)
 }
 
-// The source's `match op`. An op that has no arm here is handed on, and so it goes from function to function: what is left at last
+// The source's `match op`. An op that has no arm here is handed on from function to function, and what is left at last
 // is refused. In the same way SPECIAL hands on a funct.
-fn class_of(w: u32, bits64: bool) -> Class
+fn shape_of(w: u32, bits64: bool) -> Shape
     ensures { λ r. ⌜ Is r w bits64 ⌝ }
 {
     let op = word::op(w);
@@ -124,362 +70,371 @@ fn class_of(w: u32, bits64: bool) -> Class
 // ── SPECIAL, by funct ──
 
 // Shifts.
-fn special(w: u32, bits64: bool) -> Class
+fn special(w: u32, bits64: bool) -> Shape
     requires { ⌜ Group 0 w ⌝ }
     ensures { λ r. ⌜ Is r w bits64 ⌝ }
 {
     let funct = word::funct(w);
     match funct {
         0 => if w == NOP {
-            Class::Alone(kind::NOP, Flow::None)
+            Shape::NoOperands(kind::NOP, Flow::None)
         } else if w == SSNOP {
-            Class::Alone(kind::SSNOP, Flow::None)
+            Shape::NoOperands(kind::SSNOP, Flow::None)
         } else {
-            Class::Shift(kind::SLL)
+            Shape::RdRtSa(kind::SLL)
         },
         2 => if word::rs(w) == 1 {
-            Class::Shift(kind::ROTR)
+            Shape::RdRtSa(kind::ROTR)
         } else {
-            Class::Shift(kind::SRL)
+            Shape::RdRtSa(kind::SRL)
         },
-        3 => Class::Shift(kind::SRA),
-        56 => Class::Shift(kind::DSLL),
-        58 => Class::Shift(kind::DSRL),
-        59 => Class::Shift(kind::DSRA),
-        60 => Class::Shift(kind::DSLL32),
-        62 => Class::Shift(kind::DSRL32),
-        63 => Class::Shift(kind::DSRA32),
-        4 => Class::ShiftVariable(kind::SLLV),
-        6 => Class::ShiftVariable(kind::SRLV),
-        7 => Class::ShiftVariable(kind::SRAV),
-        20 => Class::ShiftVariable(kind::DSLLV),
-        22 => Class::ShiftVariable(kind::DSRLV),
-        23 => Class::ShiftVariable(kind::DSRAV),
+        3 => Shape::RdRtSa(kind::SRA),
+        56 => Shape::RdRtSa(kind::DSLL),
+        58 => Shape::RdRtSa(kind::DSRL),
+        59 => Shape::RdRtSa(kind::DSRA),
+        60 => Shape::RdRtSa(kind::DSLL32),
+        62 => Shape::RdRtSa(kind::DSRL32),
+        63 => Shape::RdRtSa(kind::DSRA32),
+        4 => Shape::RdRtRs(kind::SLLV),
+        6 => Shape::RdRtRs(kind::SRLV),
+        7 => Shape::RdRtRs(kind::SRAV),
+        20 => Shape::RdRtRs(kind::DSLLV),
+        22 => Shape::RdRtRs(kind::DSRLV),
+        23 => Shape::RdRtRs(kind::DSRAV),
         _ => move_or_multiply(funct, w, bits64),
     }
 }
 
 // Jumps by register, conditional moves, system words, HI and LO, multiply and divide.
-fn move_or_multiply(funct: u8, w: u32, bits64: bool) -> Class
+fn move_or_multiply(funct: u8, w: u32, bits64: bool) -> Shape
     requires { ⌜ Special funct (shifts ∷ []) w ⌝ }
     ensures { λ r. ⌜ Is r w bits64 ⌝ }
 {
     match funct {
-        8 => Class::Jr,
-        9 => Class::Jalr,
-        10 => Class::R3(kind::MOVZ),
-        11 => Class::R3(kind::MOVN),
-        12 => Class::Alone(kind::SYSCALL, Flow::None),
-        13 => Class::Alone(kind::BREAK, Flow::Interrupt),
-        15 => Class::Alone(kind::SYNC, Flow::None),
-        16 => Class::Mfhi(kind::MFHI),
-        18 => Class::Mfhi(kind::MFLO),
-        17 => Class::Mthi(kind::MTHI),
-        19 => Class::Mthi(kind::MTLO),
-        24 => Class::RsRt(kind::MULT),
-        25 => Class::RsRt(kind::MULTU),
-        26 => Class::RsRt(kind::DIV),
-        27 => Class::RsRt(kind::DIVU),
-        28 => Class::RsRt(kind::DMULT),
-        29 => Class::RsRt(kind::DMULTU),
-        30 => Class::RsRt(kind::DDIV),
-        31 => Class::RsRt(kind::DDIVU),
+        8 => Shape::Jr,
+        9 => Shape::Link,
+        10 => Shape::RdRsRt(kind::MOVZ),
+        11 => Shape::RdRsRt(kind::MOVN),
+        12 => Shape::NoOperands(kind::SYSCALL, Flow::None),
+        13 => Shape::NoOperands(kind::BREAK, Flow::Interrupt),
+        15 => Shape::NoOperands(kind::SYNC, Flow::None),
+        16 => Shape::OneRd(kind::MFHI),
+        18 => Shape::OneRd(kind::MFLO),
+        17 => Shape::OneRs(kind::MTHI),
+        19 => Shape::OneRs(kind::MTLO),
+        24 => Shape::RsRt(kind::MULT),
+        25 => Shape::RsRt(kind::MULTU),
+        26 => Shape::RsRt(kind::DIV),
+        27 => Shape::RsRt(kind::DIVU),
+        28 => Shape::RsRt(kind::DMULT),
+        29 => Shape::RsRt(kind::DMULTU),
+        30 => Shape::RsRt(kind::DDIV),
+        31 => Shape::RsRt(kind::DDIVU),
         _ => arithmetic(funct, w, bits64),
     }
 }
 
-fn arithmetic(funct: u8, w: u32, bits64: bool) -> Class
+fn arithmetic(funct: u8, w: u32, bits64: bool) -> Shape
     requires { ⌜ Special funct (moves ∷ shifts ∷ []) w ⌝ }
     ensures { λ r. ⌜ Is r w bits64 ⌝ }
 {
     match funct {
-        32 => Class::R3(kind::ADD),
+        32 => Shape::RdRsRt(kind::ADD),
         33 => if word::rt(w) == 0 {
-            Class::RdRs(kind::MOVE)
+            Shape::RdRs(kind::MOVE)
         } else {
-            Class::R3(kind::ADDU)
+            Shape::RdRsRt(kind::ADDU)
         },
-        34 => Class::R3(kind::SUB),
+        34 => Shape::RdRsRt(kind::SUB),
         35 => if word::rs(w) == 0 {
-            Class::RdRt(kind::NEGU)
+            Shape::RdRt(kind::NEGU)
         } else {
-            Class::R3(kind::SUBU)
+            Shape::RdRsRt(kind::SUBU)
         },
-        36 => Class::R3(kind::AND),
+        36 => Shape::RdRsRt(kind::AND),
         37 => if word::rt(w) == 0 {
-            Class::RdRs(kind::MOVE)
+            Shape::RdRs(kind::MOVE)
         } else {
-            Class::R3(kind::OR)
+            Shape::RdRsRt(kind::OR)
         },
-        38 => Class::R3(kind::XOR),
+        38 => Shape::RdRsRt(kind::XOR),
         39 => if word::rt(w) == 0 {
-            Class::RdRs(kind::NOT)
+            Shape::RdRs(kind::NOT)
         } else {
-            Class::R3(kind::NOR)
+            Shape::RdRsRt(kind::NOR)
         },
-        42 => Class::R3(kind::SLT),
-        43 => Class::R3(kind::SLTU),
+        42 => Shape::RdRsRt(kind::SLT),
+        43 => Shape::RdRsRt(kind::SLTU),
         _ => doubleword_or_trap(funct, w, bits64),
     }
 }
 
-fn doubleword_or_trap(funct: u8, w: u32, bits64: bool) -> Class
+fn doubleword_or_trap(funct: u8, w: u32, bits64: bool) -> Shape
     requires { ⌜ Special funct (arithmetics ∷ moves ∷ shifts ∷ []) w ⌝ }
     ensures { λ r. ⌜ Is r w bits64 ⌝ }
 {
     match funct {
-        44 => Class::R3(kind::DADD),
+        44 => Shape::RdRsRt(kind::DADD),
         45 => if word::rt(w) == 0 && bits64 {
-            Class::RdRs(kind::MOVE)
+            Shape::RdRs(kind::MOVE)
         } else {
-            Class::R3(kind::DADDU)
+            Shape::RdRsRt(kind::DADDU)
         },
-        46 => Class::R3(kind::DSUB),
-        47 => Class::R3(kind::DSUBU),
-        48 => Class::RsRt(kind::TGE),
-        49 => Class::RsRt(kind::TGEU),
-        50 => Class::RsRt(kind::TLT),
-        51 => Class::RsRt(kind::TLTU),
-        52 => Class::RsRt(kind::TEQ),
-        54 => Class::RsRt(kind::TNE),
-        _ => Class::Refused(refusal::SPECIAL),
+        46 => Shape::RdRsRt(kind::DSUB),
+        47 => Shape::RdRsRt(kind::DSUBU),
+        48 => Shape::RsRt(kind::TGE),
+        49 => Shape::RsRt(kind::TGEU),
+        50 => Shape::RsRt(kind::TLT),
+        51 => Shape::RsRt(kind::TLTU),
+        52 => Shape::RsRt(kind::TEQ),
+        54 => Shape::RsRt(kind::TNE),
+        _ => Shape::Refused(refusal::SPECIAL),
     }
 }
 
 // ── REGIMM, by rt ──
 
-fn regimm(w: u32) -> Class
+fn regimm(w: u32) -> Shape
     requires { ⌜ Group 1 w ⌝ }
     ensures { λ r. ⌜ Each r w ⌝ }
 {
     let rt = word::rt(w);
     match rt {
-        0 => Class::BranchRs(kind::BLTZ, Flow::CondJump),
+        0 => Shape::RsOffset(kind::BLTZ, Flow::CondJump),
         1 => if word::rs(w) == 0 {
-            Class::Branch(kind::B, Flow::Jump)
+            Shape::Offset(kind::B, Flow::Jump)
         } else {
-            Class::BranchRs(kind::BGEZ, Flow::CondJump)
+            Shape::RsOffset(kind::BGEZ, Flow::CondJump)
         },
-        2 => Class::BranchRs(kind::BLTZL, Flow::CondJump),
-        3 => Class::BranchRs(kind::BGEZL, Flow::CondJump),
-        16 => Class::BranchRs(kind::BLTZAL, Flow::Call),
+        2 => Shape::RsOffset(kind::BLTZL, Flow::CondJump),
+        3 => Shape::RsOffset(kind::BGEZL, Flow::CondJump),
+        16 => Shape::RsOffset(kind::BLTZAL, Flow::Call),
         17 => if word::rs(w) == 0 {
-            Class::Branch(kind::BAL, Flow::Call)
+            Shape::Offset(kind::BAL, Flow::Call)
         } else {
-            Class::BranchRs(kind::BGEZAL, Flow::Call)
+            Shape::RsOffset(kind::BGEZAL, Flow::Call)
         },
-        _ => Class::Refused(refusal::REGIMM),
+        _ => Shape::Refused(refusal::REGIMM),
     }
 }
 
 // ── jumps, branches and immediates, by op ──
 
-fn jump_or_branch(op: u8, w: u32) -> Class
+fn jump_or_branch(op: u8, w: u32) -> Shape
     requires { ⌜ Handed word.op op (grouped ∷ []) w ⌝ }
     ensures { λ r. ⌜ Each r w ⌝ }
 {
     match op {
-        2 => Class::Jump(kind::J, Flow::Jump),
-        3 => Class::Jump(kind::JAL, Flow::Call),
+        2 => Shape::InstrIndex(kind::J, Flow::Jump),
+        3 => Shape::InstrIndex(kind::JAL, Flow::Call),
         4 => if word::rt(w) != 0 {
-            Class::BranchRsRt(kind::BEQ, Flow::CondJump)
+            Shape::RsRtOffset(kind::BEQ, Flow::CondJump)
         } else if word::rs(w) == 0 {
-            Class::Branch(kind::B, Flow::Jump)
+            Shape::Offset(kind::B, Flow::Jump)
         } else {
-            Class::BranchRs(kind::BEQZ, Flow::CondJump)
+            Shape::RsOffset(kind::BEQZ, Flow::CondJump)
         },
         5 => if word::rt(w) == 0 {
-            Class::BranchRs(kind::BNEZ, Flow::CondJump)
+            Shape::RsOffset(kind::BNEZ, Flow::CondJump)
         } else {
-            Class::BranchRsRt(kind::BNE, Flow::CondJump)
+            Shape::RsRtOffset(kind::BNE, Flow::CondJump)
         },
         20 => if word::rt(w) == 0 {
-            Class::BranchRs(kind::BEQZL, Flow::CondJump)
+            Shape::RsOffset(kind::BEQZL, Flow::CondJump)
         } else {
-            Class::BranchRsRt(kind::BEQL, Flow::CondJump)
+            Shape::RsRtOffset(kind::BEQL, Flow::CondJump)
         },
         21 => if word::rt(w) == 0 {
-            Class::BranchRs(kind::BNEZL, Flow::CondJump)
+            Shape::RsOffset(kind::BNEZL, Flow::CondJump)
         } else {
-            Class::BranchRsRt(kind::BNEL, Flow::CondJump)
+            Shape::RsRtOffset(kind::BNEL, Flow::CondJump)
         },
-        6 => Class::BranchRs(kind::BLEZ, Flow::CondJump),
-        7 => Class::BranchRs(kind::BGTZ, Flow::CondJump),
-        22 => Class::BranchRs(kind::BLEZL, Flow::CondJump),
-        23 => Class::BranchRs(kind::BGTZL, Flow::CondJump),
+        6 => Shape::RsOffset(kind::BLEZ, Flow::CondJump),
+        7 => Shape::RsOffset(kind::BGTZ, Flow::CondJump),
+        22 => Shape::RsOffset(kind::BLEZL, Flow::CondJump),
+        23 => Shape::RsOffset(kind::BGTZL, Flow::CondJump),
         _ => immediate(op, w),
     }
 }
 
-fn immediate(op: u8, w: u32) -> Class
+fn immediate(op: u8, w: u32) -> Shape
     requires { ⌜ Handed word.op op (branches ∷ grouped ∷ []) w ⌝ }
     ensures { λ r. ⌜ Each r w ⌝ }
 {
     match op {
-        8 => Class::AddImm(kind::ADDI, SIGNED),
+        8 => Shape::RtRsImmAdd(kind::ADDI),
         9 => if word::rs(w) == 0 {
-            Class::Li(SIGNED)
+            Shape::RtImm
         } else {
-            Class::AddImm(kind::ADDIU, SIGNED)
+            Shape::RtRsImmAdd(kind::ADDIU)
         },
-        24 => Class::AddImm(kind::DADDI, SIGNED),
+        24 => Shape::RtRsImmAdd(kind::DADDI),
         25 => if word::rs(w) == 0 {
-            Class::Li(SIGNED)
+            Shape::RtImm
         } else {
-            Class::AddImm(kind::DADDIU, SIGNED)
+            Shape::RtRsImmAdd(kind::DADDIU)
         },
-        10 => Class::WriteImm(kind::SLTI, SIGNED),
-        11 => Class::WriteImm(kind::SLTIU, SIGNED),
-        12 => Class::WriteImm(kind::ANDI, UNSIGNED),
+        10 => Shape::RtRsImm(kind::SLTI),
+        11 => Shape::RtRsImm(kind::SLTIU),
+        12 => Shape::RtRsUimm(kind::ANDI),
         13 => if word::rs(w) == 0 {
-            Class::Li(UNSIGNED)
+            Shape::RtUimm
         } else {
-            Class::AddImm(kind::ORI, UNSIGNED)
+            Shape::RtRsUimmAdd(kind::ORI)
         },
-        14 => Class::WriteImm(kind::XORI, UNSIGNED),
-        15 => Class::Lui,
+        14 => Shape::RtRsUimm(kind::XORI),
+        15 => Shape::RtUimmUpper,
         _ => load_or_store(op),
     }
 }
 
 // ── COP0, by rs; SPECIAL2 and SPECIAL3, by funct ──
 
-fn cop0(w: u32) -> Class
+fn cop0(w: u32) -> Shape
     requires { ⌜ Group 16 w ⌝ }
     ensures { λ r. ⌜ Each r w ⌝ }
 {
     let rs = word::rs(w);
     match rs {
-        0 => Class::Cop0(kind::MFC0, true),
-        4 => Class::Cop0(kind::MTC0, false),
+        0 => Shape::RtCop0Write(kind::MFC0),
+        4 => Shape::RtCop0(kind::MTC0),
         16 => {
             let funct = word::funct(w);
             match funct {
-                24 => Class::Alone(kind::ERET, Flow::Ret),
-                32 => Class::Alone(kind::WAIT, Flow::None),
-                _ => Class::Refused(refusal::COP0),
+                24 => Shape::NoOperands(kind::ERET, Flow::Ret),
+                32 => Shape::NoOperands(kind::WAIT, Flow::None),
+                _ => Shape::Refused(refusal::COP0),
             }
         }
-        _ => Class::Refused(refusal::COP0),
+        _ => Shape::Refused(refusal::COP0),
     }
 }
 
-fn special2(w: u32) -> Class
+fn special2(w: u32) -> Shape
     requires { ⌜ Group 28 w ⌝ }
     ensures { λ r. ⌜ Each r w ⌝ }
 {
     let funct = word::funct(w);
     match funct {
-        0 => Class::RsRt(kind::MADD),
-        1 => Class::RsRt(kind::MADDU),
-        2 => Class::R3(kind::MUL),
-        4 => Class::RsRt(kind::MSUB),
-        32 => Class::RdRs(kind::CLZ),
-        33 => Class::RdRs(kind::CLO),
-        _ => Class::Refused(refusal::SPECIAL2),
+        0 => Shape::RsRt(kind::MADD),
+        1 => Shape::RsRt(kind::MADDU),
+        2 => Shape::RdRsRt(kind::MUL),
+        4 => Shape::RsRt(kind::MSUB),
+        32 => Shape::RdRs(kind::CLZ),
+        33 => Shape::RdRs(kind::CLO),
+        _ => Shape::Refused(refusal::SPECIAL2),
     }
 }
 
-fn special3(w: u32) -> Class
+fn special3(w: u32) -> Shape
     requires { ⌜ Group 31 w ⌝ }
     ensures { λ r. ⌜ Each r w ⌝ }
 {
     let funct = word::funct(w);
     match funct {
-        0 => Class::BitField(kind::EXT, false),
-        4 => Class::BitField(kind::INS, true),
+        0 => Shape::ExtPosSize,
+        4 => Shape::InsPosSize,
         32 => {
             let sa = word::sa(w);
             match sa {
-                2 => Class::RdRt(kind::WSBH),
-                16 => Class::RdRt(kind::SEB),
-                24 => Class::RdRt(kind::SEH),
-                _ => Class::Refused(refusal::SPECIAL3),
+                2 => Shape::RdRt(kind::WSBH),
+                16 => Shape::RdRt(kind::SEB),
+                24 => Shape::RdRt(kind::SEH),
+                _ => Shape::Refused(refusal::SPECIAL3),
             }
         }
-        59 => Class::Rdhwr,
-        _ => Class::Refused(refusal::SPECIAL3),
+        59 => Shape::RtHwr,
+        _ => Shape::Refused(refusal::SPECIAL3),
     }
 }
 
 // ── loads and stores, by op ──
 
-fn load_or_store(op: u8) -> Class
+fn load_or_store(op: u8) -> Shape
     ensures { λ r. ⌜ EachHanded r op (immediates ∷ branches ∷ grouped ∷ []) ⌝ }
 {
     match op {
-        32 => Class::Load(kind::LB, 1),
-        33 => Class::Load(kind::LH, 2),
-        34 => Class::Load(kind::LWL, 4),
-        35 => Class::Load(kind::LW, 4),
-        36 => Class::Load(kind::LBU, 1),
-        37 => Class::Load(kind::LHU, 2),
-        38 => Class::Load(kind::LWR, 4),
-        39 => Class::Load(kind::LWU, 4),
-        26 => Class::Load(kind::LDL, 8),
-        27 => Class::Load(kind::LDR, 8),
-        40 => Class::Store(kind::SB, 1),
-        41 => Class::Store(kind::SH, 2),
-        42 => Class::Store(kind::SWL, 4),
-        43 => Class::Store(kind::SW, 4),
-        44 => Class::Store(kind::SDL, 8),
-        45 => Class::Store(kind::SDR, 8),
-        46 => Class::Store(kind::SWR, 4),
-        47 => Class::HintMem(kind::CACHE),
-        48 => Class::Load(kind::LL, 4),
-        51 => Class::HintMem(kind::PREF),
-        52 => Class::Load(kind::LLD, 8),
-        55 => Class::Load(kind::LD, 8),
-        56 => Class::StoreConditional(kind::SC),
-        60 => Class::StoreConditional(kind::SCD),
-        63 => Class::Store(kind::SD, 8),
-        49 => Class::FloatMem(kind::LWC1, 4),
-        53 => Class::FloatMem(kind::LDC1, 8),
-        57 => Class::FloatMem(kind::SWC1, 4),
-        61 => Class::FloatMem(kind::SDC1, 8),
-        _ => Class::Refused(refusal::OP),
+        32 => Shape::RtBaseLoad(kind::LB, 1),
+        33 => Shape::RtBaseLoad(kind::LH, 2),
+        34 => Shape::RtBaseLoad(kind::LWL, 4),
+        35 => Shape::RtBaseLoad(kind::LW, 4),
+        36 => Shape::RtBaseLoad(kind::LBU, 1),
+        37 => Shape::RtBaseLoad(kind::LHU, 2),
+        38 => Shape::RtBaseLoad(kind::LWR, 4),
+        39 => Shape::RtBaseLoad(kind::LWU, 4),
+        26 => Shape::RtBaseLoad(kind::LDL, 8),
+        27 => Shape::RtBaseLoad(kind::LDR, 8),
+        40 => Shape::RtBaseStore(kind::SB, 1),
+        41 => Shape::RtBaseStore(kind::SH, 2),
+        42 => Shape::RtBaseStore(kind::SWL, 4),
+        43 => Shape::RtBaseStore(kind::SW, 4),
+        44 => Shape::RtBaseStore(kind::SDL, 8),
+        45 => Shape::RtBaseStore(kind::SDR, 8),
+        46 => Shape::RtBaseStore(kind::SWR, 4),
+        47 => Shape::HintBase(kind::CACHE),
+        48 => Shape::RtBaseLoad(kind::LL, 4),
+        51 => Shape::HintBase(kind::PREF),
+        52 => Shape::RtBaseLoad(kind::LLD, 8),
+        55 => Shape::RtBaseLoad(kind::LD, 8),
+        56 => Shape::RtBaseWrite(kind::SC),
+        60 => Shape::RtBaseWrite(kind::SCD),
+        63 => Shape::RtBaseStore(kind::SD, 8),
+        49 => Shape::FtBase(kind::LWC1, 4),
+        53 => Shape::FtBase(kind::LDC1, 8),
+        57 => Shape::FtBase(kind::SWC1, 4),
+        61 => Shape::FtBase(kind::SDC1, 8),
+        _ => Shape::Refused(refusal::OP),
     }
 }
 
 // ── COP1, by fmt ──
 
-fn decode_cop1(w: u32) -> Class
+fn decode_cop1(w: u32) -> Shape
     requires { ⌜ Group 17 w ⌝ }
     ensures { λ r. ⌜ Each r w ⌝ }
 {
     let fmt = word::rs(w);
     match fmt {
-        0 => Class::Cop1(kind::MFC1, true),
-        1 => Class::Cop1(kind::DMFC1, true),
-        2 => Class::Cop1(kind::CFC1, true),
-        4 => Class::Cop1(kind::MTC1, false),
-        5 => Class::Cop1(kind::DMTC1, false),
-        6 => Class::Cop1(kind::CTC1, false),
+        0 => Shape::RtFsWrite(kind::MFC1),
+        1 => Shape::RtFsWrite(kind::DMFC1),
+        2 => Shape::RtFsWrite(kind::CFC1),
+        4 => Shape::RtFs(kind::MTC1),
+        5 => Shape::RtFs(kind::DMTC1),
+        6 => Shape::RtFs(kind::CTC1),
         8 => bc1(w),
         16 => float(S, w),
         17 => float(D, w),
         20 => float(W, w),
         21 => float(L, w),
-        _ => Class::Refused(refusal::COP1),
+        _ => Shape::Refused(refusal::COP1),
     }
 }
 
-fn bc1(w: u32) -> Class
+fn bc1(w: u32) -> Shape
     requires { ⌜ Group 17 w × (fieldsOf w word.rs ≡ 8) ⌝ }
     ensures { λ r. ⌜ Each r w ⌝ }
 {
     let likely_and_true = word::rt(w) % 4;
     match likely_and_true {
-        0 => Class::Branch(kind::BC1F, Flow::CondJump),
-        1 => Class::Branch(kind::BC1T, Flow::CondJump),
-        2 => Class::Branch(kind::BC1FL, Flow::CondJump),
-        _ => Class::Branch(kind::BC1TL, Flow::CondJump),
+        0 => Shape::Offset(kind::BC1F, Flow::CondJump),
+        1 => Shape::Offset(kind::BC1T, Flow::CondJump),
+        2 => Shape::Offset(kind::BC1FL, Flow::CondJump),
+        _ => Shape::Offset(kind::BC1TL, Flow::CondJump),
     }
 }
 
-// The source's `(base, ops)`, and its `format!`: the base's mnemonic, so far on as the format's mnemonics stand behind
-// those of format s.
-fn float(f: u8, w: u32) -> Class
+// The operands of an arithmetic word of COP1.
+enum FloatOps {
+    FdFsFt,
+    FdFs,
+    FsFt,
+}
+
+// The source's `(base, ops)`: the mnemonic in format s, and the operands.
+struct FloatPair(u8, FloatOps);
+
+// The source's `(base, ops)` and its `format!`: the mnemonic of format s, moved on by the distance of the format.
+fn float(f: u8, w: u32) -> Shape
     requires { ⌜ Format f w ⌝ }
     requires { ⌜ f ≤ 48 ⌝ }
     ensures { λ r. ⌜ Each r w ⌝ }
@@ -502,12 +457,12 @@ fn float(f: u8, w: u32) -> Class
         50 => FloatPair(kind::C_EQ_S, FloatOps::FsFt),
         60 => FloatPair(kind::C_LT_S, FloatOps::FsFt),
         62 => FloatPair(kind::C_LE_S, FloatOps::FsFt),
-        _ => return Class::Refused(refusal::COP1),
+        _ => return Shape::Refused(refusal::COP1),
     };
     let mnemonic = base + f;
     match ops {
-        FloatOps::FdFsFt => Class::FdFsFt(mnemonic),
-        FloatOps::FdFs => Class::FdFs(mnemonic),
-        FloatOps::FsFt => Class::FsFt(mnemonic),
+        FloatOps::FdFsFt => Shape::FdFsFt(mnemonic),
+        FloatOps::FdFs => Shape::FdFs(mnemonic),
+        FloatOps::FsFt => Shape::FsFt(mnemonic),
     }
 }

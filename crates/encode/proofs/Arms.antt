@@ -1,23 +1,27 @@
 -- One law for every arm that names the class of a mnemonic: a test of the mnemonic's first row, computed.
--- Assumes nothing.
 use Prim.Native.Nat.{ℕ, suc, _+_, _*_, _^_, _≤_, _<_}
 use mathlib.Core.Path.{_≡_, refl, sym, _∙_, ap, subst}
 use mathlib.Core.Bool.{Bool, true, false, _&&_}
+use mathlib.Core.List.{List}
 use mathlib.Core.Option.{Option, none, some}
 use native.Mathlib.Omega.{arith}
 use lib.Dec.{T, eqb, leb, eqb→eq, leb→le}
 use lib.IntN.{pos}
 use Rattle.word.specs.Word.{word}
 use Rattle.reading.specs.declared.Op.{Op}
-use Rattle.classes.specs.Row.{Code, reg, freg, cop0, num, size, s16, u16, mem, br, jmp, Form, end, _▸_, posSize, link, Row}
+use Rattle.classes.specs.Row.{Code, reg, freg, cop0, num, size, s16, u16, mem, br, jmp, Form, end, _▸_, posSize, link}
+use Rattle.classes.specs.Row.{Row}
 use Rattle.classes.specs.Table.{table}
-use Rattle.classes.proofs.Tests.{and-l, and-r, sameForm, same-form, NoneFrom, past}
+use Rattle.laws.proofs.Tests.{and-l, and-r, NoneFrom, past}
+use Rattle.classes.specs.Private.Same.{sameForm}
+use Rattle.classes.proofs.Tests.{same-form}
+use Rattle.classes.proofs.Find.{every}
 use Rattle.classes.proofs.Operands.{known, known-table, known-kind}
-use Rattle.inverse.proofs.Fill.{part, one-less, filled}
-use Rattle.inverse.proofs.Good.{least, base}
-use Rattle.inverse.proofs.Tables.{first, pick-first, pick-every}
+use Rattle.inverse.specs.Private.Fill.{part, one-less, filled}
+use Rattle.inverse.specs.Private.Candidate.{least, base, first}
+use Rattle.inverse.proofs.Tables.{pick-first, pick-every}
 use Rattle.encode.specs.declared.stem.Stem.{Stem}
-use Rattle.encode.specs.Private.Stem.{planOf, Serves, Roomy, Is}
+use Rattle.encode.specs.Private.Stem.{planOf, Serves, Roomy, IsIn, Is}
 
 -- ── forms that are filled in the same way ──
 
@@ -66,8 +70,8 @@ unfoldable pub serves : Stem → Option Row → Bool
 serves s none = true
 serves s (some h) = eqb ((planOf s) .least) (word (base h)) && sameForm (plainForm ((planOf s) .shape)) (plainForm (h .form))
 
-unfoldable pub suited : Stem → ℕ → Bool
-suited s k = leb ((planOf s) .least) (63 * 2 ^ 26) && (serves s (first (table true) k) && serves s (first (table false) k))
+abbrev pub suitedIn : (Bool → List Row) → Stem → ℕ → Bool
+suitedIn t s k = leb ((planOf s) .least) (63 * 2 ^ 26) && (serves s (first (t true) k) && serves s (first (t false) k))
 
 served : (s : Stem) (h : Row) → T (serves s (some h)) → Serves s h
 unfolding serves
@@ -80,23 +84,34 @@ served s h t =
     same : plainForm ((planOf s) .shape) ≡ plainForm (h .form)
     same = same-form (plainForm ((planOf s) .shape)) (plainForm (h .form)) (and-r (eqb ((planOf s) .least) (word (base h))) _ t)
 
-suited-is : (s : Stem) (k : ℕ) → T (suited s k) → Is s k
-unfolding suited
-suited-is s k t = record { roomy = leb→le ((planOf s) .least) (63 * 2 ^ 26) (and-l (leb ((planOf s) .least) (63 * 2 ^ 26)) both t); serves = go }
-  where
-    both : Bool
-    both = serves s (first (table true) k) && serves s (first (table false) k)
+-- THE LAW of an arm in any tables: m is the arm's mnemonic
+module _ (t : Bool → List Row) where
+  suited-is : (s : Stem) (k : ℕ) → T (suitedIn t s k) → IsIn t s k
+  suited-is s k u = record { roomy = leb→le ((planOf s) .least) (63 * 2 ^ 26) (and-l low both u); serves = go }
+    where
+      low : Bool
+      low = leb ((planOf s) .least) (63 * 2 ^ 26)
 
-    t₁ : T both
-    t₁ = and-r (leb ((planOf s) .least) (63 * 2 ^ 26)) both t
+      both : Bool
+      both = serves s (first (t true) k) && serves s (first (t false) k)
 
-    go : (wide : Bool) (h : Row) → first (table wide) k ≡ some h → Serves s h
-    go true h e = served s h (subst (λ (o : Option Row). T (serves s o)) e (and-l (serves s (first (table true) k)) _ t₁))
-    go false h e = served s h (subst (λ (o : Option Row). T (serves s o)) e (and-r (serves s (first (table true) k)) (serves s (first (table false) k)) t₁))
+      by-row : (h : Row) {o : Option Row} → o ≡ some h → T (serves s o) → Serves s h
+      by-row h e v = served s h (subst (λ (o : Option Row). T (serves s o)) e v)
 
--- THE LAW of an arm: m is the arm's mnemonic
+      go : (wide : Bool) (h : Row) → first (t wide) k ≡ some h → Serves s h
+      go true h e = by-row h e (and-l (serves s (first (t true) k)) _ (and-r low both u))
+      go false h e = by-row h e (and-r (serves s (first (t true) k)) (serves s (first (t false) k)) (and-r low both u))
+
+  pub arm-in : {s : Stem} {k m : ℕ} → m ≡ k → T (suitedIn t s k) → IsIn t s m
+  arm-in {s} {k} e u = subst (IsIn t s) (sym e) (suited-is s k u)
+
+-- in those of the definition
+unfoldable pub suited : Stem → ℕ → Bool
+suited s k = suitedIn table s k
+
 pub arm : {s : Stem} {k m : ℕ} → m ≡ k → T (suited s k) → Is s m
-arm {s} {k} e t = subst (Is s) (sym e) (suited-is s k t)
+unfolding suited
+arm e u = arm-in table e u
 
 -- ── what no arm has ──
 
@@ -105,10 +120,15 @@ pub outside : (m a n : ℕ) → a ≤ m → m < a + n → NoneFrom m a n → ⊥
 outside m a n l h p = omega (arith, past m a n l p)
 
 -- no row has a mnemonic past the last
-pub past-all : (s : Stem) (m : ℕ) → Roomy s → 211 < m → Is s m
-past-all s m l h = record { roomy = l; serves = λ wide k e. absurd (none wide k e) }
+pub past-in : (t : Bool → List Row) → ((wide : Bool) → T (every known (t wide))) →
+    (s : Stem) (m : ℕ) → Roomy s → 211 < m → IsIn t s m
+past-in t every-known s m l h = record { roomy = l; serves = λ wide k e. absurd (none wide k e) }
   where
-    none : (wide : Bool) (k : Row) → first (table wide) m ≡ some k → ⊥
+    none : (wide : Bool) (k : Row) → first (t wide) m ≡ some k → ⊥
     none wide k e =
-        let p = pick-every known (table wide) (known-table wide) m (pos 0) k (pick-first (table wide) m (pos 0) (λ d. omega (arith, d)) ∙ e) in
+        let picked = pick-first (t wide) m (pos 0) (λ d. omega (arith, d)) ∙ e in
+        let p = pick-every known (t wide) (every-known wide) m (pos 0) k picked in
         omega (arith, p .0, known-kind k (p .1))
+
+pub past-all : (s : Stem) (m : ℕ) → Roomy s → 211 < m → Is s m
+past-all = past-in table known-table

@@ -1,15 +1,14 @@
 // The encoder: from a reading to the smallest word that has it. The source has none; it only decodes.
-// A class by the mnemonic (`stems`), the operands put into its least word (`put`): one candidate, which is decoded and compared.
-// Stands on `decode` and `reading`; what the answer means is defined in `inverse`.
+// A class by the mnemonic (`stems`), the operands put into its least word (`put`): one candidate, which is decoded and
+// compared. Depends on `decode` and `reading`; what the answer means is defined in `inverse`.
 ghost use mathlib.Core.Path.{_≡_};
 ghost use mathlib.Core.Bool.{true};
+ghost use Rattle.refusal.specs.Numbers as refusal;
 ghost use Rattle.classes.specs.Meaning.{intOf};
 ghost use Rattle.classes.specs.Decoded.{decodedOf};
 ghost use Rattle.inverse.specs.Encoded.{Encodes};
-ghost use Rattle.inverse.proofs.Fill.{filled};
-ghost use Rattle.inverse.proofs.Good.{inSigned};
-ghost use Rattle.inverse.proofs.Rows.{afterNops};
-ghost use Rattle.inverse.proofs.Smallest.{operandAt};
+ghost use Rattle.inverse.specs.Private.Fill.{filled};
+ghost use Rattle.inverse.specs.Private.Candidate.{inSigned, afterNops, operandAt};
 ghost use Rattle.encode.specs.Private.Stem.{planOf, four, wordBy, Roomy, For, Candidate};
 
 mod put;
@@ -21,10 +20,9 @@ use reading::Insn;
 use reading::Op;
 use reading::Operand;
 use reading::kind;
-use reading::refusal;
 use stem::Stem;
 
-// Words that are no `sll`, though all of its operands are zero.
+// Words that are not `sll`, though all of its operands are zero.
 const NOP: u32 = 0;
 
 const SSNOP: u32 = 0x40;
@@ -38,7 +36,7 @@ const SIGNED_LIMIT: i64 = 0x8000;
 // `li` with an immediate that is not signed, and nothing put in.
 const LI_UNSIGNED: u32 = 0x3400_0000;
 
-// The smallest word that has this reading at this address and flag, and 9 if there is none.
+// The smallest word that has this reading at this address and flag, and a refusal if there is none.
 pub fn encode(insn: Insn, va: u64, wide: bool) -> Encoded
     ensures { λ r. ⌜ Encodes (λ w. decodedOf w va wide) insn r ⌝ }
 {
@@ -55,7 +53,7 @@ pub fn encode(insn: Insn, va: u64, wide: bool) -> Encoded
 }
 
 fn none() -> Encoded
-    ensures { λ r. ⌜ (r .number ≡ 9) × (r .word ≡ 0) ⌝ }
+    ensures { λ r. ⌜ (r .number ≡ refusal.no-word) × (r .word ≡ 0) ⌝ }
 {
     Encoded {
         number: refusal::NO_WORD,
@@ -101,7 +99,8 @@ fn is_signed(z: i64) -> bool
     z < SIGNED_LIMIT
 }
 
-// A mnemonic has one class, or several with the same operands, of which the first has the smallest words. But `li` goes by its value.
+// A mnemonic has one class, or several with the same operands, of which the first has the smallest words. Only the
+// class of `li` depends on the value.
 fn stem_for(m: u8, second: Op) -> Stem
     ensures { λ r. ⌜ For r m (intOf second) ⌝ }
 {
@@ -147,28 +146,28 @@ fn least_of(s: Stem) -> u32
     ensures { λ r. ⌜ r ≡ (planOf s) .least ⌝ }
 {
     match s {
-        Stem::Alone(w) => w,
-        Stem::Rs(w) => w,
-        Stem::Rd(w) => w,
+        Stem::NoOperands(w) => w,
+        Stem::OneRs(w) => w,
+        Stem::OneRd(w) => w,
         Stem::RdRs(w) => w,
         Stem::RdRt(w) => w,
         Stem::RsRt(w) => w,
         Stem::RdRsRt(w) => w,
         Stem::RdRtRs(w) => w,
         Stem::RdRtSa(w) => w,
-        Stem::RtRd(w) => w,
-        Stem::SaRd(w) => w,
-        Stem::SaRdRt(w) => w,
+        Stem::RtCop0(w) => w,
+        Stem::FdFs(w) => w,
+        Stem::FdFsFt(w) => w,
         Stem::Link(w) => w,
-        Stem::Index(w) => w,
+        Stem::InstrIndex(w) => w,
         Stem::Offset(w) => w,
         Stem::RsOffset(w) => w,
         Stem::RsRtOffset(w) => w,
         Stem::RtImm(w) => w,
         Stem::RtRsImm(w) => w,
         Stem::RtBase(w) => w,
-        Stem::Ext(w) => w,
-        Stem::Ins(w) => w,
+        Stem::ExtPosSize(w) => w,
+        Stem::InsPosSize(w) => w,
     }
 }
 
@@ -177,27 +176,27 @@ fn operands_in(s: Stem, n: u8, a: Op, b: Op, c: Op, d: Op, va: u64) -> u32
     ensures { λ r. ⌜ r ≡ filled ((planOf s) .shape) va n (four a b c d) ⌝ }
 {
     match s {
-        Stem::Alone(_) => 0,
-        Stem::Rs(_) => put::rs(a),
-        Stem::Rd(_) => put::rd(a),
+        Stem::NoOperands(_) => 0,
+        Stem::OneRs(_) => put::rs(a),
+        Stem::OneRd(_) => put::rd(a),
         Stem::RdRs(_) => put::rd(a) + put::rs(b),
         Stem::RdRt(_) => put::rd(a) + put::rt(b),
         Stem::RsRt(_) => put::rs(a) + put::rt(b),
         Stem::RdRsRt(_) => put::rd(a) + put::rs(b) + put::rt(c),
         Stem::RdRtRs(_) => put::rd(a) + put::rt(b) + put::rs(c),
         Stem::RdRtSa(_) => put::rd(a) + put::rt(b) + put::sa(c),
-        Stem::RtRd(_) => put::rt(a) + put::rd(b),
-        Stem::SaRd(_) => put::sa(a) + put::rd(b),
-        Stem::SaRdRt(_) => put::sa(a) + put::rd(b) + put::rt(c),
+        Stem::RtCop0(_) => put::rt(a) + put::rd(b),
+        Stem::FdFs(_) => put::sa(a) + put::rd(b),
+        Stem::FdFsFt(_) => put::sa(a) + put::rd(b) + put::rt(c),
         Stem::Link(_) => put::link(n, a, b),
-        Stem::Index(_) => put::index(a),
+        Stem::InstrIndex(_) => put::index(a),
         Stem::Offset(_) => put::offset(a, va),
         Stem::RsOffset(_) => put::rs(a) + put::offset(b, va),
         Stem::RsRtOffset(_) => put::rs(a) + put::rt(b) + put::offset(c, va),
         Stem::RtImm(_) => put::rt(a) + put::imm(b),
         Stem::RtRsImm(_) => put::rt(a) + put::rs(b) + put::imm(c),
         Stem::RtBase(_) => put::rt(a) + put::base(b),
-        Stem::Ext(_) => put::rt(a) + put::rs(b) + put::sa(c) + put::ext_size(d),
-        Stem::Ins(_) => put::rt(a) + put::rs(b) + put::sa(c) + put::ins_size(d, c),
+        Stem::ExtPosSize(_) => put::rt(a) + put::rs(b) + put::sa(c) + put::ext_size(d),
+        Stem::InsPosSize(_) => put::rt(a) + put::rs(b) + put::sa(c) + put::ins_size(d, c),
     }
 }

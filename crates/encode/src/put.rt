@@ -1,11 +1,11 @@
-// What an operand puts into a word. An operand of another kind than the class has puts in something else; the word then has another
-// reading, and the encoder sees that.
+// What an operand puts into a word. An operand of another kind than the class has puts in something else; the word then
+// has another reading, and the encoder sees that.
 ghost use Prim.Native.Nat.{_+_, _*_, _/_, _%_, _<_};
 ghost use mathlib.Core.Path.{_≡_};
 ghost use mathlib.Core.Bool.{cond};
 ghost use lib.Dec.{eqb};
 ghost use Rattle.word.specs.Word as word;
-ghost use Rattle.inverse.proofs.Fill.{numberOf, baseOf, at, branchBack, lastBit};
+ghost use Rattle.inverse.specs.Private.Fill.{numberOf, baseOf, at, branchBack, lastBit};
 use reading::Op;
 
 // How many values a register field, an immediate and an index have.
@@ -98,14 +98,14 @@ fn last_bit(o: Op, first: u32) -> u32
     ((low(o) + first + 31) % 32) << 11
 }
 
-// Of `ext` the size is one more than rd, wherever the field begins.
+// For `ext` the size is one more than rd, wherever the field begins.
 pub(crate) fn ext_size(o: Op) -> u32
     ensures { λ r. ⌜ r ≡ lastBit (numberOf o) 0 * 2048 ⌝ }
 {
     last_bit(o, 0)
 }
 
-// Of `ins` it goes by the first bit.
+// For `ins` it depends on the first bit.
 pub(crate) fn ins_size(o: Op, first: Op) -> u32
     ensures { λ r. ⌜ r ≡ lastBit (numberOf o) (numberOf first % 32) * 2048 ⌝ }
 {

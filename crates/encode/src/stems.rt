@@ -1,16 +1,17 @@
-// The class that has a mnemonic's smallest words: its least word, and the shape of its operands. The words are those of the table of
-// classes with nothing put in, and the arms stand in its order; of twins it is the class that comes first, whose words are smaller.
+// The class that has a mnemonic's smallest words: its least word, and the form of its operands. The words are those of
+// the table of classes with nothing put in, and the arms are in its order; of twins it is the class that comes first,
+// whose words are smaller.
 ghost use Rattle.reading.specs.Kind as kind;
 ghost use Rattle.encode.specs.Private.Stem.{Is, Between};
 use crate::stem::Stem;
 use reading::kind;
 
-// A number that is no mnemonic has no class, and any word will do, since none has its reading.
+// A number that is not a mnemonic has no class, and any word will do, since none has its reading.
 pub(crate) fn stem_of(m: u8) -> Stem
     ensures { λ r. ⌜ Is r m ⌝ }
 {
     if m >= kind::MANY {
-        return Stem::Alone(0);
+        return Stem::NoOperands(0);
     }
     if m >= kind::LB {
         return load_or_store(m);
@@ -42,8 +43,8 @@ fn shift_move_or_multiply(m: u8) -> Stem
     ensures { λ r. ⌜ Is r m ⌝ }
 {
     match m {
-        kind::NOP => Stem::Alone(0x0000_0000),
-        kind::SSNOP => Stem::Alone(0x0000_0040),
+        kind::NOP => Stem::NoOperands(0x0000_0000),
+        kind::SSNOP => Stem::NoOperands(0x0000_0040),
         kind::SLL => Stem::RdRtSa(0x0000_0000),
         kind::ROTR => Stem::RdRtSa(0x0020_0002),
         kind::SRL => Stem::RdRtSa(0x0000_0002),
@@ -51,17 +52,17 @@ fn shift_move_or_multiply(m: u8) -> Stem
         kind::SLLV => Stem::RdRtRs(0x0000_0004),
         kind::SRLV => Stem::RdRtRs(0x0000_0006),
         kind::SRAV => Stem::RdRtRs(0x0000_0007),
-        kind::JR => Stem::Rs(0x0000_0008),
+        kind::JR => Stem::OneRs(0x0000_0008),
         kind::JALR => Stem::Link(0x0000_0009),
         kind::MOVZ => Stem::RdRsRt(0x0000_000a),
         kind::MOVN => Stem::RdRsRt(0x0000_000b),
-        kind::SYSCALL => Stem::Alone(0x0000_000c),
-        kind::BREAK => Stem::Alone(0x0000_000d),
-        kind::SYNC => Stem::Alone(0x0000_000f),
-        kind::MFHI => Stem::Rd(0x0000_0010),
-        kind::MTHI => Stem::Rs(0x0000_0011),
-        kind::MFLO => Stem::Rd(0x0000_0012),
-        kind::MTLO => Stem::Rs(0x0000_0013),
+        kind::SYSCALL => Stem::NoOperands(0x0000_000c),
+        kind::BREAK => Stem::NoOperands(0x0000_000d),
+        kind::SYNC => Stem::NoOperands(0x0000_000f),
+        kind::MFHI => Stem::OneRd(0x0000_0010),
+        kind::MTHI => Stem::OneRs(0x0000_0011),
+        kind::MFLO => Stem::OneRd(0x0000_0012),
+        kind::MTLO => Stem::OneRs(0x0000_0013),
         kind::DSLLV => Stem::RdRtRs(0x0000_0014),
         kind::DSRLV => Stem::RdRtRs(0x0000_0016),
         kind::DSRAV => Stem::RdRtRs(0x0000_0017),
@@ -73,7 +74,7 @@ fn shift_move_or_multiply(m: u8) -> Stem
         kind::DMULTU => Stem::RsRt(0x0000_001d),
         kind::DDIV => Stem::RsRt(0x0000_001e),
         kind::DDIVU => Stem::RsRt(0x0000_001f),
-        _ => Stem::Alone(0),
+        _ => Stem::NoOperands(0),
     }
 }
 
@@ -112,7 +113,7 @@ fn arithmetic_or_trap(m: u8) -> Stem
         kind::DSLL32 => Stem::RdRtSa(0x0000_003c),
         kind::DSRL32 => Stem::RdRtSa(0x0000_003e),
         kind::DSRA32 => Stem::RdRtSa(0x0000_003f),
-        _ => Stem::Alone(0),
+        _ => Stem::NoOperands(0),
     }
 }
 
@@ -130,8 +131,8 @@ fn branch_or_immediate(m: u8) -> Stem
         kind::BLTZAL => Stem::RsOffset(0x0410_0000),
         kind::BAL => Stem::Offset(0x0411_0000),
         kind::BGEZAL => Stem::RsOffset(0x0411_0000),
-        kind::J => Stem::Index(0x0800_0000),
-        kind::JAL => Stem::Index(0x0c00_0000),
+        kind::J => Stem::InstrIndex(0x0800_0000),
+        kind::JAL => Stem::InstrIndex(0x0c00_0000),
         kind::BEQZ => Stem::RsOffset(0x1000_0000),
         kind::BEQ => Stem::RsRtOffset(0x1000_0000),
         kind::BNEZ => Stem::RsOffset(0x1400_0000),
@@ -147,7 +148,7 @@ fn branch_or_immediate(m: u8) -> Stem
         kind::ORI => Stem::RtRsImm(0x3400_0000),
         kind::XORI => Stem::RtRsImm(0x3800_0000),
         kind::LUI => Stem::RtImm(0x3c00_0000),
-        _ => Stem::Alone(0),
+        _ => Stem::NoOperands(0),
     }
 }
 
@@ -157,21 +158,21 @@ fn cop0_or_cop1_move(m: u8) -> Stem
     ensures { λ r. ⌜ Is r m ⌝ }
 {
     match m {
-        kind::MFC0 => Stem::RtRd(0x4000_0000),
-        kind::MTC0 => Stem::RtRd(0x4080_0000),
-        kind::ERET => Stem::Alone(0x4200_0018),
-        kind::WAIT => Stem::Alone(0x4200_0020),
-        kind::MFC1 => Stem::RtRd(0x4400_0000),
-        kind::DMFC1 => Stem::RtRd(0x4420_0000),
-        kind::CFC1 => Stem::RtRd(0x4440_0000),
-        kind::MTC1 => Stem::RtRd(0x4480_0000),
-        kind::DMTC1 => Stem::RtRd(0x44a0_0000),
-        kind::CTC1 => Stem::RtRd(0x44c0_0000),
+        kind::MFC0 => Stem::RtCop0(0x4000_0000),
+        kind::MTC0 => Stem::RtCop0(0x4080_0000),
+        kind::ERET => Stem::NoOperands(0x4200_0018),
+        kind::WAIT => Stem::NoOperands(0x4200_0020),
+        kind::MFC1 => Stem::RtCop0(0x4400_0000),
+        kind::DMFC1 => Stem::RtCop0(0x4420_0000),
+        kind::CFC1 => Stem::RtCop0(0x4440_0000),
+        kind::MTC1 => Stem::RtCop0(0x4480_0000),
+        kind::DMTC1 => Stem::RtCop0(0x44a0_0000),
+        kind::CTC1 => Stem::RtCop0(0x44c0_0000),
         kind::BC1F => Stem::Offset(0x4500_0000),
         kind::BC1T => Stem::Offset(0x4501_0000),
         kind::BC1FL => Stem::Offset(0x4502_0000),
         kind::BC1TL => Stem::Offset(0x4503_0000),
-        _ => Stem::Alone(0),
+        _ => Stem::NoOperands(0),
     }
 }
 
@@ -181,39 +182,39 @@ fn single_or_double(m: u8) -> Stem
     ensures { λ r. ⌜ Is r m ⌝ }
 {
     match m {
-        kind::ADD_S => Stem::SaRdRt(0x4600_0000),
-        kind::SUB_S => Stem::SaRdRt(0x4600_0001),
-        kind::MUL_S => Stem::SaRdRt(0x4600_0002),
-        kind::DIV_S => Stem::SaRdRt(0x4600_0003),
-        kind::SQRT_S => Stem::SaRd(0x4600_0004),
-        kind::ABS_S => Stem::SaRd(0x4600_0005),
-        kind::MOV_S => Stem::SaRd(0x4600_0006),
-        kind::NEG_S => Stem::SaRd(0x4600_0007),
-        kind::TRUNC_W_S => Stem::SaRd(0x4600_000d),
-        kind::CVT_S_S => Stem::SaRd(0x4600_0020),
-        kind::CVT_D_S => Stem::SaRd(0x4600_0021),
-        kind::CVT_W_S => Stem::SaRd(0x4600_0024),
-        kind::CVT_L_S => Stem::SaRd(0x4600_0025),
+        kind::ADD_S => Stem::FdFsFt(0x4600_0000),
+        kind::SUB_S => Stem::FdFsFt(0x4600_0001),
+        kind::MUL_S => Stem::FdFsFt(0x4600_0002),
+        kind::DIV_S => Stem::FdFsFt(0x4600_0003),
+        kind::SQRT_S => Stem::FdFs(0x4600_0004),
+        kind::ABS_S => Stem::FdFs(0x4600_0005),
+        kind::MOV_S => Stem::FdFs(0x4600_0006),
+        kind::NEG_S => Stem::FdFs(0x4600_0007),
+        kind::TRUNC_W_S => Stem::FdFs(0x4600_000d),
+        kind::CVT_S_S => Stem::FdFs(0x4600_0020),
+        kind::CVT_D_S => Stem::FdFs(0x4600_0021),
+        kind::CVT_W_S => Stem::FdFs(0x4600_0024),
+        kind::CVT_L_S => Stem::FdFs(0x4600_0025),
         kind::C_EQ_S => Stem::RdRt(0x4600_0032),
         kind::C_LT_S => Stem::RdRt(0x4600_003c),
         kind::C_LE_S => Stem::RdRt(0x4600_003e),
-        kind::ADD_D => Stem::SaRdRt(0x4620_0000),
-        kind::SUB_D => Stem::SaRdRt(0x4620_0001),
-        kind::MUL_D => Stem::SaRdRt(0x4620_0002),
-        kind::DIV_D => Stem::SaRdRt(0x4620_0003),
-        kind::SQRT_D => Stem::SaRd(0x4620_0004),
-        kind::ABS_D => Stem::SaRd(0x4620_0005),
-        kind::MOV_D => Stem::SaRd(0x4620_0006),
-        kind::NEG_D => Stem::SaRd(0x4620_0007),
-        kind::TRUNC_W_D => Stem::SaRd(0x4620_000d),
-        kind::CVT_S_D => Stem::SaRd(0x4620_0020),
-        kind::CVT_D_D => Stem::SaRd(0x4620_0021),
-        kind::CVT_W_D => Stem::SaRd(0x4620_0024),
-        kind::CVT_L_D => Stem::SaRd(0x4620_0025),
+        kind::ADD_D => Stem::FdFsFt(0x4620_0000),
+        kind::SUB_D => Stem::FdFsFt(0x4620_0001),
+        kind::MUL_D => Stem::FdFsFt(0x4620_0002),
+        kind::DIV_D => Stem::FdFsFt(0x4620_0003),
+        kind::SQRT_D => Stem::FdFs(0x4620_0004),
+        kind::ABS_D => Stem::FdFs(0x4620_0005),
+        kind::MOV_D => Stem::FdFs(0x4620_0006),
+        kind::NEG_D => Stem::FdFs(0x4620_0007),
+        kind::TRUNC_W_D => Stem::FdFs(0x4620_000d),
+        kind::CVT_S_D => Stem::FdFs(0x4620_0020),
+        kind::CVT_D_D => Stem::FdFs(0x4620_0021),
+        kind::CVT_W_D => Stem::FdFs(0x4620_0024),
+        kind::CVT_L_D => Stem::FdFs(0x4620_0025),
         kind::C_EQ_D => Stem::RdRt(0x4620_0032),
         kind::C_LT_D => Stem::RdRt(0x4620_003c),
         kind::C_LE_D => Stem::RdRt(0x4620_003e),
-        _ => Stem::Alone(0),
+        _ => Stem::NoOperands(0),
     }
 }
 
@@ -223,39 +224,39 @@ fn word_or_long(m: u8) -> Stem
     ensures { λ r. ⌜ Is r m ⌝ }
 {
     match m {
-        kind::ADD_W => Stem::SaRdRt(0x4680_0000),
-        kind::SUB_W => Stem::SaRdRt(0x4680_0001),
-        kind::MUL_W => Stem::SaRdRt(0x4680_0002),
-        kind::DIV_W => Stem::SaRdRt(0x4680_0003),
-        kind::SQRT_W => Stem::SaRd(0x4680_0004),
-        kind::ABS_W => Stem::SaRd(0x4680_0005),
-        kind::MOV_W => Stem::SaRd(0x4680_0006),
-        kind::NEG_W => Stem::SaRd(0x4680_0007),
-        kind::TRUNC_W_W => Stem::SaRd(0x4680_000d),
-        kind::CVT_S_W => Stem::SaRd(0x4680_0020),
-        kind::CVT_D_W => Stem::SaRd(0x4680_0021),
-        kind::CVT_W_W => Stem::SaRd(0x4680_0024),
-        kind::CVT_L_W => Stem::SaRd(0x4680_0025),
+        kind::ADD_W => Stem::FdFsFt(0x4680_0000),
+        kind::SUB_W => Stem::FdFsFt(0x4680_0001),
+        kind::MUL_W => Stem::FdFsFt(0x4680_0002),
+        kind::DIV_W => Stem::FdFsFt(0x4680_0003),
+        kind::SQRT_W => Stem::FdFs(0x4680_0004),
+        kind::ABS_W => Stem::FdFs(0x4680_0005),
+        kind::MOV_W => Stem::FdFs(0x4680_0006),
+        kind::NEG_W => Stem::FdFs(0x4680_0007),
+        kind::TRUNC_W_W => Stem::FdFs(0x4680_000d),
+        kind::CVT_S_W => Stem::FdFs(0x4680_0020),
+        kind::CVT_D_W => Stem::FdFs(0x4680_0021),
+        kind::CVT_W_W => Stem::FdFs(0x4680_0024),
+        kind::CVT_L_W => Stem::FdFs(0x4680_0025),
         kind::C_EQ_W => Stem::RdRt(0x4680_0032),
         kind::C_LT_W => Stem::RdRt(0x4680_003c),
         kind::C_LE_W => Stem::RdRt(0x4680_003e),
-        kind::ADD_L => Stem::SaRdRt(0x46a0_0000),
-        kind::SUB_L => Stem::SaRdRt(0x46a0_0001),
-        kind::MUL_L => Stem::SaRdRt(0x46a0_0002),
-        kind::DIV_L => Stem::SaRdRt(0x46a0_0003),
-        kind::SQRT_L => Stem::SaRd(0x46a0_0004),
-        kind::ABS_L => Stem::SaRd(0x46a0_0005),
-        kind::MOV_L => Stem::SaRd(0x46a0_0006),
-        kind::NEG_L => Stem::SaRd(0x46a0_0007),
-        kind::TRUNC_W_L => Stem::SaRd(0x46a0_000d),
-        kind::CVT_S_L => Stem::SaRd(0x46a0_0020),
-        kind::CVT_D_L => Stem::SaRd(0x46a0_0021),
-        kind::CVT_W_L => Stem::SaRd(0x46a0_0024),
-        kind::CVT_L_L => Stem::SaRd(0x46a0_0025),
+        kind::ADD_L => Stem::FdFsFt(0x46a0_0000),
+        kind::SUB_L => Stem::FdFsFt(0x46a0_0001),
+        kind::MUL_L => Stem::FdFsFt(0x46a0_0002),
+        kind::DIV_L => Stem::FdFsFt(0x46a0_0003),
+        kind::SQRT_L => Stem::FdFs(0x46a0_0004),
+        kind::ABS_L => Stem::FdFs(0x46a0_0005),
+        kind::MOV_L => Stem::FdFs(0x46a0_0006),
+        kind::NEG_L => Stem::FdFs(0x46a0_0007),
+        kind::TRUNC_W_L => Stem::FdFs(0x46a0_000d),
+        kind::CVT_S_L => Stem::FdFs(0x46a0_0020),
+        kind::CVT_D_L => Stem::FdFs(0x46a0_0021),
+        kind::CVT_W_L => Stem::FdFs(0x46a0_0024),
+        kind::CVT_L_L => Stem::FdFs(0x46a0_0025),
         kind::C_EQ_L => Stem::RdRt(0x46a0_0032),
         kind::C_LT_L => Stem::RdRt(0x46a0_003c),
         kind::C_LE_L => Stem::RdRt(0x46a0_003e),
-        _ => Stem::Alone(0),
+        _ => Stem::NoOperands(0),
     }
 }
 
@@ -281,13 +282,13 @@ fn likely_or_special2_or_3(m: u8) -> Stem
         kind::MSUB => Stem::RsRt(0x7000_0004),
         kind::CLZ => Stem::RdRs(0x7000_0020),
         kind::CLO => Stem::RdRs(0x7000_0021),
-        kind::EXT => Stem::Ext(0x7c00_0000),
-        kind::INS => Stem::Ins(0x7c00_0004),
+        kind::EXT => Stem::ExtPosSize(0x7c00_0000),
+        kind::INS => Stem::InsPosSize(0x7c00_0004),
         kind::WSBH => Stem::RdRt(0x7c00_00a0),
         kind::SEB => Stem::RdRt(0x7c00_0420),
         kind::SEH => Stem::RdRt(0x7c00_0620),
-        kind::RDHWR => Stem::RtRd(0x7c00_003b),
-        _ => Stem::Alone(0),
+        kind::RDHWR => Stem::RtCop0(0x7c00_003b),
+        _ => Stem::NoOperands(0),
     }
 }
 
@@ -324,6 +325,6 @@ fn load_or_store(m: u8) -> Stem
         kind::SCD => Stem::RtBase(0xf000_0000),
         kind::SDC1 => Stem::RtBase(0xf400_0000),
         kind::SD => Stem::RtBase(0xfc00_0000),
-        _ => Stem::Alone(0),
+        _ => Stem::NoOperands(0),
     }
 }

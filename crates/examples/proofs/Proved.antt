@@ -1,5 +1,4 @@
 -- What specs/Examples.antt states, computed: a line here for each line of the table there.
--- Assumes nothing.
 use Prim.Native.Nat.{ℕ, _<_}
 use mathlib.Core.Path.{_≡_, refl, subst}
 use mathlib.Core.Bool.{Bool, true, false}
@@ -12,17 +11,19 @@ use Rattle.reading.specs.declared.Insn.{Insn}
 use Rattle.reading.specs.declared.Decoded.{Decoded}
 use Rattle.reading.specs.Kind as kind
 use Rattle.reading.specs.Kind.{from}
-use Rattle.classes.specs.Row.{is, read, zeros, plain, jump, nothing, writes, sets, Row}
-use Rattle.classes.specs.Meaning.{match, six, nopLike, takes, find, out, outs, markOf, targetIn, reading, meaning, intOf}
-use Rattle.classes.specs.Table.{rd-rt-sa, offset, rt-imm, row, rowButNops, common, byWidth, table}
-use Rattle.classes.specs.Refusals.{elem, holds, meets, refusal, refusals}
-use Rattle.classes.specs.Decoded.{acceptedAs, decodedBy, decodedOf}
+use Rattle.classes.specs.Row.{is, read, zeros, Row}
+use Rattle.classes.specs.Meaning.{match, six, nopLike, takes, find, out, outs, markOf, targetIn, reading, meaning}
+use Rattle.classes.specs.Meaning.{intOf}
+use Rattle.classes.specs.Table.{rd-rt-sa, offset, rt-imm, jumps, computes, setsImmediate, row, rowButNops, common}
+use Rattle.classes.specs.Table.{byWidth, table}
+use Rattle.laws.specs.Lists.{elem}
+use Rattle.classes.specs.Refusals.{holds, meets, refusal, refusals}
+use Rattle.reading.specs.Reading.{acceptedAs}
+use Rattle.classes.specs.Decoded.{decodedBy, decodedOf}
 use Rattle.inverse.specs.Encoded.{encodedAs, Encodes}
-use Rattle.inverse.proofs.Fill.{branchBack, part, filled}
-use Rattle.inverse.proofs.Good.{least, holds as holdsIn, suits}
-use Rattle.inverse.proofs.Rows.{afterNops, candidate}
-use Rattle.inverse.proofs.Tables.{pick}
-use Rattle.inverse.proofs.Smallest.{operandAt, Tries}
+use Rattle.inverse.specs.Private.Fill.{branchBack, part, filled}
+use Rattle.inverse.specs.Private.Candidate.{least, holds as holdsIn, suits, afterNops, candidate, pick, operandAt}
+use Rattle.inverse.specs.Private.Candidate.{Tries}
 use Rattle.inverse.proofs.Proved.{good-of, picked, encoded}
 use Rattle.examples.specs.Examples.{examples, Every, Examples}
 
@@ -44,13 +45,13 @@ module _ (wide : Bool) (va : ℕ) (i : Insn) (h : Row) where
       encoded wide va i c (subst (Tries (table wide) va i) e (picked (table wide) refusals (good-of wide) va i h p)) l d
 
 sll-row : Row
-sll-row = rowButNops kind.sll (is 0) zeros read read read (is 0) rd-rt-sa plain writes
+sll-row = rowButNops kind.sll (is 0) zeros read read read (is 0) rd-rt-sa computes
 
 b-row : Row
-b-row = row kind.b (is 1) (is 0) (is 1) read read read offset jump nothing
+b-row = row kind.b (is 1) (is 0) (is 1) read read read offset jumps
 
 li-row : Row
-li-row = row kind.li (is 9) (is 0) read read read read rt-imm plain sets
+li-row = row kind.li (is 9) (is 0) read read read read rt-imm setsImmediate
 
 -- ── the table ──
 

@@ -1,6 +1,5 @@
--- Document 01's examples that are marked P, a line of the table for each word. Where the document has no address the line holds at every
--- address; each holds with and without the width flag.
--- Assumes nothing.
+-- Document 01's examples that are marked P, a line of the table for each word. Where the document has no address the
+-- line holds at every address; each holds with and without the width flag.
 use Prim.Native.Nat.{ℕ}
 use mathlib.Core.Path.{_≡_}
 use mathlib.Core.Bool.{Bool, false}

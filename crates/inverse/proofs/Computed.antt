@@ -1,13 +1,13 @@
 -- The tables of the definition pass the test: it is computed under each width flag.
--- Assumes nothing.
 use mathlib.Core.Bool.{Bool, true, false}
 use native.Mathlib.Decide.{ℕ-discrete}
 use lib.Dec.{T}
 use Rattle.word.specs.Word.{word}
 use Rattle.classes.specs.Meaning.{match, six}
 use Rattle.classes.specs.Table.{common, byWidth, table}
-use Rattle.classes.specs.Refusals.{elem, refusals}
-use Rattle.classes.proofs.Tests.{and-i}
+use Rattle.laws.specs.Lists.{elem}
+use Rattle.classes.specs.Refusals.{refusals}
+use Rattle.laws.proofs.Tests.{and-i}
 use Rattle.classes.proofs.Boxes.{exact}
 use Rattle.classes.proofs.Accepts.{numbered, numbered-refusals, exact-table}
 use Rattle.classes.proofs.Find.{every}
@@ -15,9 +15,9 @@ use Rattle.classes.proofs.Operands.{operandsIn}
 use Rattle.classes.proofs.Uses.{uses, usesForm, isRead, madeOfRead}
 use Rattle.inverse.proofs.Fill.{apart}
 use Rattle.inverse.proofs.Restored.{rotates}
-use Rattle.inverse.proofs.Tables.{first}
+use Rattle.inverse.specs.Private.Candidate.{first, least}
 use Rattle.inverse.proofs.Later.{later, follows, inOrder}
-use Rattle.inverse.proofs.Good.{least, leastIn, nopsIn, sound, sameOperands, before, twin, paired, good}
+use Rattle.inverse.proofs.Good.{leastIn, nopsIn, sound, sameOperands, before, twin, paired, good}
 
 sound-table : (wide : Bool) → T (every sound (table wide))
 unfolding every sound madeOfRead six usesForm uses isRead least leastIn match nopsIn apart operandsIn table common byWidth

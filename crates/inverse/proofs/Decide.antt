@@ -1,5 +1,4 @@
 -- Whether two readings are one can be decided.
--- Assumes nothing.
 use mathlib.Core.Path.{_≡_, ap}
 use mathlib.Core.Bool.{Bool-discrete}
 use mathlib.Core.List.{List-discrete}

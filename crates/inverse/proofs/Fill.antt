@@ -1,6 +1,5 @@
--- From operands back to bits: what each operand puts into a word, and that the operands of a word put its own fields back.
--- Assumes nothing.
-use Prim.Native.Nat.{ℕ, zero, suc, _+_, _*_, _-_, _/_, _%_, _^_, _<_}
+-- The operands of a word put its own fields back.
+use Prim.Native.Nat.{ℕ, suc, _+_, _*_, _-_, _/_, _%_, _^_, _<_}
 use mathlib.Core.Path.{_≡_, refl, sym, _∙_, ap, ap₂}
 use mathlib.Core.Bool.{Bool, true, false, not, cond, _&&_}
 use mathlib.Core.List.{List, [], _∷_}
@@ -10,71 +9,19 @@ use borrow.Author.Tests.{ltb-true, ltb-false, eqb-true}
 use lib.Dec.{T, eqb, ltb}
 use lib.IntN.{ℤ, pos, negsuc, _*ℤ_}
 use lib.ListN.{length, getD}
-use Rattle.word.specs.Word.{Field, sameField, op, rs, rt, rd, sa, fn, Fields, room, Fit, word}
+use Rattle.word.specs.Word.{Field, sameField, op, rs, rt, rd, sa, funct, Fields, room, Fit, word}
 use Rattle.word.specs.Numbers.{imm, index, signed, modulo64, branchTo, jumpTo, sizeOf}
 use Rattle.word.proofs.Fields.{field-small, imm-small, index-small}
 use Rattle.word.proofs.Signed.{neg-pos, by-sign, branch-is, size-is}
 use Rattle.reading.specs.declared.Op.{Op}
-use Rattle.reading.specs.declared.Op.the-variants.{Reg, FReg, Imm, Mem, Addr, Cop0}
+use Rattle.reading.specs.declared.Op.the-variants.{Reg}
 use Rattle.classes.specs.Row.{Code, reg, freg, cop0, num, size, s16, u16, mem, br, jmp, Form, end, _▸_, posSize, link}
 use Rattle.classes.specs.Meaning.{six, out, outs}
-use Rattle.classes.proofs.Tests.{and-l, and-r, six-at}
+use Rattle.laws.proofs.Tests.{and-l, and-r}
+use Rattle.classes.proofs.Tests.{six-at}
 use Rattle.classes.proofs.Uses.{uses, usesForm}
-use Rattle.inverse.proofs.Weigh.{place, weigh, weigh-or, weigh-one, weigh-imm, weigh-index}
-
--- ── what an operand puts in ──
-
--- the number in an operand, whatever its kind; and the base of a Mem
-abbrev pub numberOf : Op → ℕ
-numberOf (Reg n) = n
-numberOf (FReg n) = n
-numberOf (Imm z) = modulo64 z
-numberOf (Mem z n) = modulo64 z
-numberOf (Addr a) = a
-numberOf (Cop0 n) = n
-
-abbrev pub baseOf : Op → ℕ
-baseOf (Reg n) = 0
-baseOf (FReg n) = 0
-baseOf (Imm z) = 0
-baseOf (Mem z n) = n
-baseOf (Addr a) = 0
-baseOf (Cop0 n) = 0
-
--- a register or number in a field
-abbrev pub at : Field → Op → ℕ
-at x o = numberOf o % room x * place x
-
--- the immediate of a branch at va that goes to t
-unfoldable pub branchBack : ℕ → ℕ → ℕ
-branchBack va t = (t + (2 ^ 64 - (va + 4) % 2 ^ 64)) % 2 ^ 64 / 4 % 2 ^ 16
-
--- the last bit of `ins`, from its size and its first bit
-abbrev pub lastBit : ℕ → ℕ → ℕ
-lastBit n lsb = (n % 32 + lsb + 31) % 32
-
-unfoldable pub part : Code → ℕ → Op → ℕ
-part (reg x) va o = at x o
-part (freg x) va o = at x o
-part (cop0 x) va o = at x o
-part (num x) va o = at x o
-part size va o = lastBit (numberOf o) 0 * 2 ^ 11
-part s16 va o = numberOf o % 2 ^ 16
-part u16 va o = numberOf o % 2 ^ 16
-part mem va o = baseOf o % 2 ^ 5 * 2 ^ 21 + numberOf o % 2 ^ 16
-part br va o = branchBack va (numberOf o)
-part jmp va o = numberOf o / 4 % 2 ^ 26
-
-abbrev pub one-less : ℕ → ℕ
-one-less zero = zero
-one-less (suc n) = n
-
--- how many operands there are, and each by its place
-unfoldable pub filled : Form → ℕ → ℕ → (ℕ → Op) → ℕ
-filled end va n o = 0
-filled (c ▸ φ) va n o = part c va (o 0) + filled φ va (one-less n) (λ k. o (suc k))
-filled posSize va n o = at sa (o 0) + lastBit (numberOf (o 1)) (numberOf (o 0) % 2 ^ 5) * 2 ^ 11
-filled link va n o = cond (eqb n 1) (at rs (o 0) + 31 * 2 ^ 11) (at rd (o 0) + at rs (o 1))
+use Rattle.inverse.specs.Private.Fill.{branchBack, lastBit, part, filled, place}
+use Rattle.inverse.proofs.Weigh.{weigh, weigh-or, weigh-one, weigh-imm, weigh-index}
 
 -- the operand at a place; register 0 where there is none
 abbrev pub nth : List Op → ℕ → Op
@@ -122,7 +69,7 @@ mem-back f h = weigh-or (sameField rs) (uses s16) f apart-mem ∙ omega (arith, 
     apart-mem rt = tt
     apart-mem rd = tt
     apart-mem sa = tt
-    apart-mem fn = tt
+    apart-mem funct = tt
 
 pub part-law : (c : Code) (va : ℕ) (f : Fields) → Fit f → part c va (out c va f) ≡ weigh (uses c) f
 unfolding part out uses

@@ -1,42 +1,28 @@
 -- THE TEST that a table of classes and an acceptance table pass for demand 3: each word is in one row or is refused, each row is well
 -- made, and rows of one mnemonic are twins whose words stand in order. All that the laws need of the tables is here.
--- Assumes nothing.
 use Prim.Native.Nat.{ℕ}
 use mathlib.Core.Bool.{Bool, true, false, not, _&&_, _||_}
 use mathlib.Core.List.{List, [], _∷_}
-use native.Mathlib.Decide.{ℕ-discrete}
 use lib.Dec.{eqb, ltb, leb}
-use lib.IntN.{ℤ, pos, negsuc}
-use Rattle.word.specs.Word.{Field, Fields, room}
+use Rattle.word.specs.Word.{Field, room}
 use Rattle.reading.specs.Kind as kind
-use Rattle.classes.specs.Row.{Pat, is, read, readBut, skip, skipBut, low, Form, Row, patOf}
-use Rattle.classes.specs.Row.{Control, Control-discrete, Change, Change-discrete}
+use Rattle.classes.specs.Row.{Pat, is, read, readBut, zeros, extra, skipBut, low, Row, patOf}
 use Rattle.classes.specs.Meaning.{match, six}
 use Rattle.classes.specs.Table.{rt-imm, rt-uimm}
-use Rattle.classes.specs.Refusals.{elem, Refusal}
-use Rattle.classes.proofs.Tests.{sameForm}
+use Rattle.laws.specs.Lists.{elem}
+use Rattle.classes.specs.Refusals.{Refusal}
+use Rattle.classes.specs.Private.Same.{sameForm}
+use Rattle.classes.proofs.Tests.{sameManner}
 use Rattle.classes.proofs.Boxes.{exact}
 use Rattle.classes.proofs.Accepts.{numbered}
 use Rattle.classes.proofs.Find.{every}
 use Rattle.classes.proofs.Operands.{operandsIn}
 use Rattle.classes.proofs.Uses.{isRead, madeOfRead}
 use Rattle.inverse.specs.Same.{groups}
+use Rattle.inverse.specs.Private.Candidate.{least, base}
 use Rattle.inverse.proofs.Fill.{apart}
 
 -- ── one row ──
-
--- the smallest value for a field that is not read, and 0 for one that is
-unfoldable pub least : Pat → ℕ
-least (is v) = v
-least read = 0
-least (readBut v) = 0
-least (skip y) = 0
-least (skipBut v) = 0
-least (low v) = v
-
--- the row's word with nothing put in
-abbrev pub base : Row → Fields
-base r x = least (patOf r x)
 
 -- the field can have that value
 unfoldable pub leastIn : Row → Field → Bool
@@ -47,7 +33,8 @@ abbrev pub fixedTo : ℕ → Pat → Bool
 fixedTo n (is v) = eqb v n
 fixedTo n read = false
 fixedTo n (readBut v) = false
-fixedTo n (skip y) = false
+fixedTo n zeros = false
+fixedTo n extra = false
 fixedTo n (skipBut v) = false
 fixedTo n (low v) = false
 
@@ -58,7 +45,8 @@ abbrev pub isFree : Pat → Bool
 isFree (is v) = false
 isFree read = false
 isFree (readBut v) = false
-isFree (skip y) = true
+isFree zeros = true
+isFree extra = true
 isFree (skipBut v) = false
 isFree (low v) = false
 
@@ -66,29 +54,12 @@ isFree (low v) = false
 unfoldable pub nopsIn : Row → Bool
 nopsIn r =
     not (r .nops)
-    || (isZero (r .pop) && (isZero (r .pfn) && (isFree (r .prs) && (isRead (r .prt) && (isRead (r .prd) && isRead (r .psa))))))
+    || (isZero (r .pop) && (isZero (r .pfunct) && (isFree (r .prs) && (isRead (r .prt) && (isRead (r .prd) && isRead (r .psa))))))
 
 unfoldable pub sound : Row → Bool
 sound r = madeOfRead r && (six (leastIn r) && (nopsIn r && (apart (r .form) && leb (operandsIn (r .form)) 4)))
 
 -- ── two rows of one mnemonic ──
-
--- the values that an immediate has, signed and not
-abbrev pub inSigned : ℤ → Bool
-inSigned (pos n) = ltb n 32768
-inSigned (negsuc n) = ltb n 32768
-
-abbrev pub inUnsigned : ℤ → Bool
-inUnsigned (pos n) = ltb n 65536
-inUnsigned (negsuc n) = false
-
--- can a row with this form have this value as its second operand?
-unfoldable pub holds : Form → ℤ → Bool
-holds φ z = (not (sameForm φ rt-imm) || inSigned z) && (not (sameForm φ rt-uimm) || inUnsigned z)
-
--- asked of `li` alone, which has rows of both forms
-unfoldable pub suits : Row → ℤ → Bool
-suits r z = not (eqb (r .kind) kind.li) || holds (r .form) z
 
 unfoldable pub sameOperands : Row → Row → Bool
 sameOperands h r =
@@ -96,18 +67,13 @@ sameOperands h r =
     || (eqb (h .kind) kind.li
     && ((sameForm (h .form) rt-imm && sameForm (r .form) rt-uimm) || (sameForm (h .form) rt-uimm && sameForm (r .form) rt-imm)))
 
-abbrev pub sameControl : Control → Control → Bool
-sameControl a b = elim (Control-discrete a b) [ yes e ↦ true | no n ↦ false ]
-
-abbrev pub sameChange : Change → Change → Bool
-sameChange a b = elim (Change-discrete ℕ-discrete a b) [ yes e ↦ true | no n ↦ false ]
-
 -- what is read may be anything
 abbrev pub isPlain : Pat → Bool
 isPlain (is v) = true
 isPlain read = true
 isPlain (readBut v) = false
-isPlain (skip y) = true
+isPlain zeros = true
+isPlain extra = true
 isPlain (skipBut v) = true
 isPlain (low v) = true
 
@@ -118,8 +84,8 @@ before h r = (not (isRead (h .pop)) && ltb (least (h .pop)) (least (r .pop))) ||
 unfoldable pub twin : Row → Row → Bool
 twin h r =
     elem (r .kind) groups
-    && (sameControl (h .control) (r .control)
-    && (sameChange (h .change) (r .change) && (not (h .nops) && (sameOperands h r && (six (λ x. isPlain (patOf h x)) && before h r)))))
+    && (sameManner (h .manner) (r .manner)
+    && (not (h .nops) && (sameOperands h r && (six (λ x. isPlain (patOf h x)) && before h r))))
 
 -- ── the tables ──
 

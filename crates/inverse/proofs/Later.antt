@@ -1,5 +1,4 @@
 -- Which row is picked for a word's reading: the word's own, unless an earlier row has its mnemonic and its operands.
--- Assumes nothing.
 use Prim.Native.Nat.{ℕ}
 use mathlib.Core.Path.{_≡_, refl, sym, _∙_, ap, subst}
 use mathlib.Core.Bool.{Bool, true, false, not, cond, _&&_, _||_}
@@ -12,10 +11,10 @@ use Rattle.word.specs.Word.{word}
 use Rattle.reading.specs.Kind as kind
 use Rattle.classes.specs.Row.{Row}
 use Rattle.classes.specs.Table.{rt-imm, rt-uimm}
-use Rattle.classes.proofs.Tests.{and-l, and-r, and-i, implied, at-true, sameForm}
+use Rattle.laws.proofs.Tests.{and-l, and-r, and-i, implied, at-true}
+use Rattle.classes.specs.Private.Same.{sameForm}
 use Rattle.classes.proofs.Find.{In, every, every-in}
-use Rattle.inverse.proofs.Good.{base, inSigned, holds, suits}
-use Rattle.inverse.proofs.Tables.{pick, first}
+use Rattle.inverse.specs.Private.Candidate.{base, inSigned, holds, suits, pick, first}
 
 -- another row has the mnemonic first
 unfoldable pub later : List Row → Row → Bool

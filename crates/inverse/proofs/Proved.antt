@@ -1,6 +1,5 @@
 -- What specs/Theorems.antt states, proved: for any tables that pass the test, and for those of the definition. And what an encoder has to
 -- do: try the candidate, read it back and compare.
--- Assumes nothing.
 use Prim.Native.Nat.{ℕ, _<_, _≤_}
 use mathlib.Core.Path.{_≡_, refl, sym, _∙_, ap}
 use mathlib.Core.Bool.{Bool, true, false}
@@ -10,6 +9,7 @@ use native.Mathlib.Decide.{ℕ-discrete}
 use native.Mathlib.Omega.{arith}
 use borrow.Author.Tests.{ltb-true, ltb-false}
 use lib.Dec.{ltb}
+use Rattle.refusal.specs.Numbers as refusal
 use Rattle.word.specs.Word.{fieldsOf, words}
 use Rattle.reading.specs.declared.Insn.{Insn}
 use Rattle.reading.specs.declared.Decoded.{Decoded}
@@ -18,7 +18,8 @@ use Rattle.classes.specs.Row.{Row}
 use Rattle.classes.specs.Meaning.{find, intOf}
 use Rattle.classes.specs.Table.{table}
 use Rattle.classes.specs.Refusals.{Refusal, refusals}
-use Rattle.classes.specs.Decoded.{acceptedAs, decodedOf}
+use Rattle.reading.specs.Reading.{acceptedAs}
+use Rattle.classes.specs.Decoded.{decodedOf}
 use Rattle.classes.proofs.Accepts.{accepted-as, accepted-insn}
 use Rattle.inverse.specs.Encoded.{Has, encodedAs, Encodes, smallest, no-word}
 use Rattle.inverse.specs.Least.{Least}
@@ -26,9 +27,9 @@ use Rattle.inverse.specs.Theorems.{Accepted, Demand3, Theorems}
 use Rattle.inverse.proofs.Good.{good}
 use Rattle.inverse.proofs.Computed.{good-table, rotating-table}
 use Rattle.inverse.proofs.Decide.{insn}
-use Rattle.inverse.proofs.Rows.{candidate}
-use Rattle.inverse.proofs.Tables.{pick, Good, good-is}
-use Rattle.inverse.proofs.Smallest.{answerBy, operandAt, Tries, smallest-law}
+use Rattle.inverse.specs.Private.Candidate.{candidate, pick, operandAt, Tries}
+use Rattle.inverse.proofs.Tables.{Good, good-is}
+use Rattle.inverse.proofs.Smallest.{answerBy, smallest-law}
 use Rattle.inverse.proofs.Restored.{least-law}
 use Rattle.inverse.proofs.Same.{same-law}
 
@@ -121,7 +122,7 @@ unfolding decodedOf
 encoded wide va i c t l e = tried (table wide) refusals (good-of wide) va i c t (record { small = l; reads = e })
 
 pub refused : (wide : Bool) (va : ℕ) (i : Insn) (c : ℕ) → Tries (table wide) va i c → ¬ (decodedOf c va wide ≡ acceptedAs i) →
-    (e : Encoded) → e .number ≡ 9 → e .word ≡ 0 → Encodes (λ w. decodedOf w va wide) i e
+    (e : Encoded) → e .number ≡ refusal.no-word → e .word ≡ 0 → Encodes (λ w. decodedOf w va wide) i e
 unfolding decodedOf
 refused wide va i c t n e p q = no-word p q (λ w h. n ((smallest-law (table wide) refusals (good-of wide) va i c t w h) .0 .reads))
 

@@ -1,5 +1,4 @@
 -- The word that a word's reading gets: which row it is of, and its fields. And that what its class does not read of it is zero.
--- Assumes nothing.
 use Prim.Native.Nat.{ℕ, _+_, _%_, _^_, _<_, _≤_}
 use mathlib.Core.Path.{_≡_, refl, sym, _∙_, ap, subst}
 use mathlib.Core.Bool.{Bool, true, false, not, cond, _&&_, _||_}
@@ -10,29 +9,33 @@ use native.Mathlib.Omega.{arith}
 use borrow.Author.Tests.{eq-eqb}
 use lib.Dec.{T, eqb, eqb→eq}
 use lib.ListN.{length}
-use Rattle.word.specs.Word.{Field, op, rs, rt, rd, sa, fn, Fields, Fit, fieldsOf, word, words}
+use Rattle.word.specs.Word.{Field, op, rs, rt, rd, sa, funct, Fields, Fit, fieldsOf, word, words}
 use Rattle.word.proofs.Fields.{fields-fit, fields-word}
 use Rattle.reading.specs.declared.Op.{Op}
 use Rattle.reading.specs.declared.Insn.{Insn}
 use Rattle.reading.specs.declared.Decoded.{Decoded}
 use Rattle.reading.specs.declared.Encoded.{Encoded}
 use Rattle.reading.specs.Kind as kind
-use Rattle.classes.specs.Row.{Pat, is, read, readBut, skip, skipBut, low, Row, patOf}
+use Rattle.classes.specs.Row.{Pat, is, read, readBut, zeros, extra, skipBut, low, Row, patOf}
 use Rattle.classes.specs.Meaning.{match, takes, find, outs, meaning}
 use Rattle.classes.specs.Refusals.{Refusal}
-use Rattle.classes.proofs.Tests.{and-l, and-r, or-e, implied, at-true, chosen}
+use Rattle.laws.proofs.Tests.{and-l, and-r, or-e, implied, at-true, chosen}
 use Rattle.classes.proofs.Boxes.{taken-or-refused}
 use Rattle.classes.proofs.Accepts.{accepted-insn}
 use Rattle.classes.proofs.Find.{In, every, every-in, find-in, only-row}
 use Rattle.classes.proofs.Uses.{isRead}
 use Rattle.inverse.specs.Encoded.{Encodes, smallest, no-word}
 use Rattle.inverse.specs.Least.{ZeroAt, NeedsOne, rotr, sll-by-0, sll-by-1, Least}
-use Rattle.inverse.proofs.Fill.{filled, nth}
-use Rattle.inverse.proofs.Good.{least, base, fixedTo, suits}
-use Rattle.inverse.proofs.Rows.{takes-at, takes-nop, nop-fields, like-nop, isNop, afterNops, candidate, Sound, Nops, nops-row, Within, lift, lift-fit, lift-word}
+use Rattle.inverse.specs.Private.Fill.{filled}
+use Rattle.inverse.specs.Private.Candidate.{least, base, suits, isNop, afterNops, candidate}
+use Rattle.inverse.proofs.Fill.{nth}
+use Rattle.inverse.proofs.Good.{fixedTo}
+use Rattle.inverse.proofs.Rows.{takes-at, takes-nop, nop-fields, like-nop, Sound, Nops, nops-row, Within, lift}
+use Rattle.inverse.proofs.Rows.{lift-fit, lift-word}
 use Rattle.inverse.proofs.Twins.{valueIn, pair-outs}
 use Rattle.inverse.proofs.Tables.{Near, Picked, Good}
-use Rattle.inverse.proofs.Smallest.{answerBy, answer-is, picked-for, tried-for, within-for, has-for, tries-for, smallest-law}
+use Rattle.inverse.proofs.Smallest.{answerBy, answer-is, picked-for, tried-for, within-for, has-for, tries-for}
+use Rattle.inverse.proofs.Smallest.{smallest-law}
 
 -- ── the candidate's fields ──
 
@@ -107,7 +110,8 @@ unfolding match least isRead
 zero-least (is v) t n = tt
 zero-least read t n = tt
 zero-least (readBut v) t n = tt
-zero-least (skip y) t n = refl
+zero-least zeros t n = refl
+zero-least extra t n = refl
 zero-least (skipBut v) t n = refl
 zero-least (low v) t n = omega (arith, eqb→eq (v % 4) v t)
 
@@ -116,7 +120,8 @@ unfolding isRead
 zero-read (is v) a t = absurd t
 zero-read read a t = tt
 zero-read (readBut v) a t = tt
-zero-read (skip y) a t = absurd t
+zero-read zeros a t = absurd t
+zero-read extra a t = absurd t
 zero-read (skipBut v) a t = absurd t
 zero-read (low v) a t = absurd t
 
@@ -131,7 +136,8 @@ zero-zero : (p : Pat) → ZeroAt p 0
 zero-zero (is v) = tt
 zero-zero read = tt
 zero-zero (readBut v) = tt
-zero-zero (skip y) = refl
+zero-zero zeros = refl
+zero-zero extra = refl
 zero-zero (skipBut v) = refl
 zero-zero (low v) = refl
 
@@ -146,7 +152,8 @@ unfolding match
 one-is (is v) a t m = eqb→eq a v m ∙ eqb→eq v 1 t
 one-is read a t m = absurd t
 one-is (readBut v) a t m = absurd t
-one-is (skip y) a t m = absurd t
+one-is zeros a t m = absurd t
+one-is extra a t m = absurd t
 one-is (skipBut v) a t m = absurd t
 one-is (low v) a t m = absurd t
 
@@ -171,7 +178,7 @@ raised-zero r nops n t x d =
     by-0 rt d = zero-zero (r .prt)
     by-0 rd d = zero-zero (r .prd)
     by-0 sa d = zero-zero (r .psa)
-    by-0 fn d = zero-zero (r .pfn)
+    by-0 funct d = zero-zero (r .pfunct)
 
     by-1 : (x : Field) → ¬ (x ≡ rs) → ZeroAt (patOf r x) (fieldsOf (64 + 2 ^ 21) x)
     by-1 op d = zero-zero (r .pop)
@@ -179,7 +186,7 @@ raised-zero r nops n t x d =
     by-1 rt d = zero-zero (r .prt)
     by-1 rd d = zero-zero (r .prd)
     by-1 sa d = zero-read (r .psa) 1 (nops .sa-read)
-    by-1 fn d = zero-zero (r .pfn)
+    by-1 funct d = zero-zero (r .pfunct)
 
 raised-needs : (r : Row) (n : ℕ) → T (isNop n) → NeedsOne r (n + 2 ^ 21)
 raised-needs r n t =

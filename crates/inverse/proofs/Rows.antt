@@ -1,26 +1,29 @@
 -- The smallest word of one row: the operands of any of its words give a word of the row with these operands that is no larger.
--- Assumes nothing.
 use Prim.Native.Nat.{ℕ, _+_, _*_, _%_, _^_, _<_, _≤_, zero-le}
 use mathlib.Core.Path.{_≡_, refl, sym, _∙_, ap, subst, fun-ext}
 use mathlib.Core.Bool.{Bool, true, false, not, cond, _&&_, _||_, Bool·beq}
-use mathlib.Core.List.{List}
+use mathlib.Core.List.{List, [], _∷_}
 use mathlib.Core.Logic.{⊎-elim}
 use native.Mathlib.Nat.{le-refl, le-of-eq}
 use native.Mathlib.Omega.{arith}
 use borrow.Author.Tests.{eqb-true, eqb-false, eq-eqb, le-leb}
 use lib.Dec.{T, T-not, not-T, eqb, ltb, leb, eqb→eq, leb→le, ltb→lt}
 use lib.ListN.{length}
-use Rattle.word.specs.Word.{Field, op, rs, rt, rd, sa, fn, Fields, room, Fit, word}
+use Rattle.word.specs.Word.{Field, op, rs, rt, rd, sa, funct, Fields, room, Fit, word}
 use Rattle.word.proofs.Fields.{word-mono}
 use Rattle.reading.specs.declared.Op.{Op}
-use Rattle.classes.specs.Row.{Pat, is, read, readBut, skip, skipBut, low, Row, patOf}
+use Rattle.classes.specs.Row.{Pat, is, read, readBut, zeros, extra, skipBut, low, Row, patOf}
 use Rattle.classes.specs.Meaning.{match, six, nopLike, takes, outs}
-use Rattle.classes.proofs.Tests.{and-l, and-r, and-i, or-l, or-r, or-e, chosen, at-true, at-false, six-at, six-make, beq-same}
+use Rattle.laws.proofs.Tests.{and-l, and-r, and-i, or-l, or-r, or-e, chosen, at-true, at-false, beq-same, allOf, EachOf}
+use Rattle.laws.proofs.Tests.{each-of, implied}
+use Rattle.classes.proofs.Tests.{six-at, six-make}
 use Rattle.classes.proofs.Operands.{operandsIn}
 use Rattle.classes.proofs.Uses.{usesForm, isRead, madeOfRead, outs-same}
 use Rattle.inverse.proofs.Weigh.{weigh, word-mixed}
-use Rattle.inverse.proofs.Fill.{filled, nth, apart, fill-law}
-use Rattle.inverse.proofs.Good.{least, base, leastIn, isZero, isFree, nopsIn, sound}
+use Rattle.inverse.specs.Private.Fill.{filled}
+use Rattle.inverse.specs.Private.Candidate.{isNop, afterNops, candidate, least, base}
+use Rattle.inverse.proofs.Fill.{nth, apart, fill-law}
+use Rattle.inverse.proofs.Good.{leastIn, isZero, isFree, nopsIn, sound}
 
 -- ── what a row takes ──
 
@@ -45,7 +48,8 @@ unfolding match least
 least-le (is v) a t = le-of-eq (sym (eqb→eq a v t))
 least-le read a t = zero-le
 least-le (readBut v) a t = zero-le
-least-le (skip y) a t = zero-le
+least-le zeros a t = zero-le
+least-le extra a t = zero-le
 least-le (skipBut v) a t = zero-le
 least-le (low v) a t = omega (arith, eqb→eq (a % 4) v t)
 
@@ -54,7 +58,8 @@ unfolding isRead least
 least-read (is v) t = absurd t
 least-read read t = refl
 least-read (readBut v) t = refl
-least-read (skip y) t = absurd t
+least-read zeros t = absurd t
+least-read extra t = absurd t
 least-read (skipBut v) t = absurd t
 least-read (low v) t = absurd t
 
@@ -70,46 +75,35 @@ pub record Sound (r : Row) : Type 0 where
 
 pub sound-row : (r : Row) → T (sound r) → Sound r
 unfolding sound
-sound-row r t =
-    record {
-      made = fun-ext (λ x. beq-same (usesForm (r .form) x) (isRead (patOf r x)) (made x));
-      fits = λ x. ltb→lt (base r x) (room x) (and-r (free x) (ltb (base r x) (room x)) (both x));
-      allowed = λ x n. ⊎-elim (λ u. absurd (n u)) (λ u. u) (or-e (isRead (patOf r x)) (match (patOf r x) (base r x)) (and-l (free x) _ (both x)));
-      nops = and-l (nopsIn r) _ t₂;
-      apart = and-l (apart (r .form)) _ t₃;
-      four = leb→le (operandsIn (r .form)) 4 (and-r (apart (r .form)) (leb (operandsIn (r .form)) 4) t₃);
-    }
+sound-row r t = go (each-of tests t)
   where
-    t₁ : T (six (leastIn r) && (nopsIn r && (apart (r .form) && leb (operandsIn (r .form)) 4)))
-    t₁ = and-r (madeOfRead r) _ t
+    tests : List Bool
+    tests = madeOfRead r ∷ six (leastIn r) ∷ nopsIn r ∷ apart (r .form) ∷ leb (operandsIn (r .form)) 4 ∷ []
 
-    t₂ : T (nopsIn r && (apart (r .form) && leb (operandsIn (r .form)) 4))
-    t₂ = and-r (six (leastIn r)) _ t₁
-
-    t₃ : T (apart (r .form) && leb (operandsIn (r .form)) 4)
-    t₃ = and-r (nopsIn r) _ t₂
-
-    made : (x : Field) → T (Bool·beq (usesForm (r .form) x) (isRead (patOf r x)))
-    made = six-at (λ y. Bool·beq (usesForm (r .form) y) (isRead (patOf r y))) (unfold madeOfRead in and-l (madeOfRead r) _ t)
+    made-of : T (madeOfRead r) → (x : Field) → T (Bool·beq (usesForm (r .form) x) (isRead (patOf r x)))
+    made-of made = six-at (λ y. Bool·beq (usesForm (r .form) y) (isRead (patOf r y))) (unfold madeOfRead in made)
 
     free : Field → Bool
     free x = isRead (patOf r x) || match (patOf r x) (base r x)
 
-    both : (x : Field) → T (free x && ltb (base r x) (room x))
-    both x = unfold leastIn in six-at (leastIn r) (and-l (six (leastIn r)) _ t₁) x
+    both : T (six (leastIn r)) → (x : Field) → T (free x && ltb (base r x) (room x))
+    both least x = unfold leastIn in six-at (leastIn r) least x
+
+    free-of : (x : Field) → ¬ T (isRead (patOf r x)) → T (free x) → T (match (patOf r x) (base r x))
+    free-of x n u = ⊎-elim (λ s. absurd (n s)) (λ s. s) (or-e (isRead (patOf r x)) (match (patOf r x) (base r x)) u)
+
+    go : EachOf tests → Sound r
+    go (made, (least, (nops, (apart, (four, _))))) =
+        record {
+          made = fun-ext (λ x. beq-same (usesForm (r .form) x) (isRead (patOf r x)) (made-of made x));
+          fits = λ x. ltb→lt (base r x) (room x) (and-r (free x) (ltb (base r x) (room x)) (both least x));
+          allowed = λ x n. free-of x n (and-l (free x) _ (both least x));
+          nops = nops;
+          apart = apart;
+          four = leb→le (operandsIn (r .form)) 4 four;
+        }
 
 -- ── the word that operands give ──
-
--- words 0 and 0x40 are left out by some rows: rs is 1 then
-abbrev pub isNop : ℕ → Bool
-isNop w = eqb w 0 || eqb w 64
-
-unfoldable pub afterNops : Bool → ℕ → ℕ
-afterNops nops w = cond (nops && isNop w) (w + 2 ^ 21) w
-
--- the row's word for so many operands
-unfoldable pub candidate : Row → ℕ → ℕ → (ℕ → Op) → ℕ
-candidate r va n o = afterNops (r .nops) (word (base r) + filled (r .form) va n o)
 
 -- w is a word of row h with the operands os, no larger than f's
 pub record Within (h : Row) (va : ℕ) (os : List Op) (f : Fields) (w : ℕ) : Type 0 where
@@ -169,8 +163,8 @@ module _ (r : Row) (ok : Sound r) (f : Fields) where
 pub record Nops (r : Row) : Type 0 where
   pub zero-op : base r op ≡ 0
   pub op-unread : ¬ T (isRead (r .pop))
-  pub zero-fn : base r fn ≡ 0
-  pub fn-unread : ¬ T (isRead (r .pfn))
+  pub zero-funct : base r funct ≡ 0
+  pub funct-unread : ¬ T (isRead (r .pfunct))
   pub any-rs : T (match (r .prs) 1)
   pub zero-rs : base r rs ≡ 0
   pub rs-unread : ¬ T (isRead (r .prs))
@@ -183,7 +177,8 @@ unfolding least isRead
 zero-is (is v) t = (eqb→eq v 0 t, λ u. u)
 zero-is read t = absurd t
 zero-is (readBut v) t = absurd t
-zero-is (skip y) t = absurd t
+zero-is zeros t = absurd t
+zero-is extra t = absurd t
 zero-is (skipBut v) t = absurd t
 zero-is (low v) t = absurd t
 
@@ -192,40 +187,33 @@ unfolding match least isRead
 free-is (is v) t = absurd t
 free-is read t = absurd t
 free-is (readBut v) t = absurd t
-free-is (skip y) t = (tt, refl, λ u. u)
+free-is zeros t = (tt, refl, λ u. u)
+free-is extra t = (tt, refl, λ u. u)
 free-is (skipBut v) t = absurd t
 free-is (low v) t = absurd t
 
 pub nops-row : (r : Row) → T (nopsIn r) → T (r .nops) → Nops r
 unfolding nopsIn
-nops-row r t n =
-    record {
-      zero-op = (zero-is (r .pop) (and-l (isZero (r .pop)) _ t₁)) .0;
-      op-unread = (zero-is (r .pop) (and-l (isZero (r .pop)) _ t₁)) .1;
-      zero-fn = (zero-is (r .pfn) (and-l (isZero (r .pfn)) _ t₂)) .0;
-      fn-unread = (zero-is (r .pfn) (and-l (isZero (r .pfn)) _ t₂)) .1;
-      any-rs = (free-is (r .prs) (and-l (isFree (r .prs)) _ t₃)) .0;
-      zero-rs = (free-is (r .prs) (and-l (isFree (r .prs)) _ t₃)) .1;
-      rs-unread = (free-is (r .prs) (and-l (isFree (r .prs)) _ t₃)) .2;
-      rt-read = and-l (isRead (r .prt)) _ t₄;
-      rd-read = and-l (isRead (r .prd)) (isRead (r .psa)) t₅;
-      sa-read = and-r (isRead (r .prd)) (isRead (r .psa)) t₅;
-    }
+nops-row r t n = go (each-of tests (implied (r .nops) (allOf tests) t n))
   where
-    t₁ : T (isZero (r .pop) && (isZero (r .pfn) && (isFree (r .prs) && (isRead (r .prt) && (isRead (r .prd) && isRead (r .psa))))))
-    t₁ = ⊎-elim (λ u. absurd (T-not (r .nops) u n)) (λ u. u) (or-e (not (r .nops)) _ t)
+    tests : List Bool
+    tests =
+        isZero (r .pop) ∷ isZero (r .pfunct) ∷ isFree (r .prs) ∷ isRead (r .prt) ∷ isRead (r .prd) ∷ isRead (r .psa) ∷ []
 
-    t₂ : T (isZero (r .pfn) && (isFree (r .prs) && (isRead (r .prt) && (isRead (r .prd) && isRead (r .psa)))))
-    t₂ = and-r (isZero (r .pop)) _ t₁
-
-    t₃ : T (isFree (r .prs) && (isRead (r .prt) && (isRead (r .prd) && isRead (r .psa))))
-    t₃ = and-r (isZero (r .pfn)) _ t₂
-
-    t₄ : T (isRead (r .prt) && (isRead (r .prd) && isRead (r .psa)))
-    t₄ = and-r (isFree (r .prs)) _ t₃
-
-    t₅ : T (isRead (r .prd) && isRead (r .psa))
-    t₅ = and-r (isRead (r .prt)) _ t₄
+    go : EachOf tests → Nops r
+    go (o, (k, (free, (rt-read, (rd-read, (sa-read, _)))))) =
+        record {
+          zero-op = (zero-is (r .pop) o) .0;
+          op-unread = (zero-is (r .pop) o) .1;
+          zero-funct = (zero-is (r .pfunct) k) .0;
+          funct-unread = (zero-is (r .pfunct) k) .1;
+          any-rs = (free-is (r .prs) free) .0;
+          zero-rs = (free-is (r .prs) free) .1;
+          rs-unread = (free-is (r .prs) free) .2;
+          rt-read = rt-read;
+          rd-read = rd-read;
+          sa-read = sa-read;
+        }
 
 -- the same fields with rs 1
 abbrev raised : Fields → Fields
@@ -234,7 +222,7 @@ raised g rs = 1
 raised g rt = g rt
 raised g rd = g rd
 raised g sa = g sa
-raised g fn = g fn
+raised g funct = g funct
 
 raised-word : (g : Fields) → g rs ≡ 0 → word g + 2 ^ 21 ≡ word (raised g)
 unfolding word
@@ -257,33 +245,25 @@ like-nop g a b c d =
     (and-i (eqb (g rd) 0) (leb (g sa) 1) (at-true (eq-eqb (g rd) 0 c)) (at-true (le-leb (g sa) 1 d))))
 
 -- if op and funct are 0
-nop-word : (g : Fields) → g op ≡ 0 → g fn ≡ 0 → T (nopLike g) → T (isNop (word g))
+nop-word : (g : Fields) → g op ≡ 0 → g funct ≡ 0 → T (nopLike g) → T (isNop (word g))
 unfolding nopLike word
 nop-word g a b t = go (eqb (g sa) 0) refl
   where
-    t₁ : T (eqb (g rt) 0 && (eqb (g rd) 0 && leb (g sa) 1))
-    t₁ = and-r (eqb (g rs) 0) _ t
-
-    t₂ : T (eqb (g rd) 0 && leb (g sa) 1)
-    t₂ = and-r (eqb (g rt) 0) _ t₁
-
-    zero-rs : g rs ≡ 0
-    zero-rs = eqb→eq (g rs) 0 (and-l (eqb (g rs) 0) _ t)
-
-    zero-rt : g rt ≡ 0
-    zero-rt = eqb→eq (g rt) 0 (and-l (eqb (g rt) 0) _ t₁)
-
-    zero-rd : g rd ≡ 0
-    zero-rd = eqb→eq (g rd) 0 (and-l (eqb (g rd) 0) _ t₂)
+    each : EachOf (eqb (g rs) 0 ∷ eqb (g rt) 0 ∷ eqb (g rd) 0 ∷ leb (g sa) 1 ∷ [])
+    each = each-of (eqb (g rs) 0 ∷ eqb (g rt) 0 ∷ eqb (g rd) 0 ∷ leb (g sa) 1 ∷ []) t
 
     e : word g ≡ g sa * 2 ^ 6
-    e = omega (arith, zero-rs, zero-rt, zero-rd)
+    e = omega (arith, eqb→eq (g rs) 0 (each .0), eqb→eq (g rt) 0 (each .1 .0), eqb→eq (g rd) 0 (each .1 .1 .0))
+
+    one-at-most : g sa ≤ 1
+    one-at-most = leb→le (g sa) 1 (each .1 .1 .1 .0)
 
     go : (s : Bool) → eqb (g sa) 0 ≡ s → T (isNop (word g))
-    go true q = or-l (eqb (word g) 0) (eqb (word g) 64) (at-true (eq-eqb (word g) 0 (omega (arith, e, eqb-true (g sa) 0 q))))
+    go true q =
+        or-l (eqb (word g) 0) (eqb (word g) 64) (at-true (eq-eqb (word g) 0 (omega (arith, e, eqb-true (g sa) 0 q))))
     go false q =
         or-r (eqb (word g) 0) (eqb (word g) 64)
-        (at-true (eq-eqb (word g) 64 (omega (arith, e, eqb-false (g sa) 0 q, leb→le (g sa) 1 (and-r (eqb (g rd) 0) (leb (g sa) 1) t₂)))))
+        (at-true (eq-eqb (word g) 64 (omega (arith, e, eqb-false (g sa) 0 q, one-at-most))))
 
 -- ── a word's own row ──
 
@@ -301,7 +281,7 @@ module _ (r : Row) (ok : Sound r) (va : ℕ) (f : Fields) (fit : Fit f) (t : T (
   match-at = lift-match r ok f (λ y u. takes-at r f t y)
 
   not-nop : ¬ T (r .nops && isNop (word g)) → ¬ T (r .nops && nopLike g)
-  not-nop n u = n (and-i (r .nops) (isNop (word g)) nops (nop-word g zero-op zero-fn (and-r (r .nops) (nopLike g) u)))
+  not-nop n u = n (and-i (r .nops) (isNop (word g)) nops (nop-word g zero-op zero-funct (and-r (r .nops) (nopLike g) u)))
     where
       nops : T (r .nops)
       nops = and-l (r .nops) (nopLike g) u
@@ -312,8 +292,8 @@ module _ (r : Row) (ok : Sound r) (va : ℕ) (f : Fields) (fit : Fit f) (t : T (
       zero-op : g op ≡ 0
       zero-op = lift-unread r ok f op (at .op-unread) ∙ at .zero-op
 
-      zero-fn : g fn ≡ 0
-      zero-fn = lift-unread r ok f fn (at .fn-unread) ∙ at .zero-fn
+      zero-funct : g funct ≡ 0
+      zero-funct = lift-unread r ok f funct (at .funct-unread) ∙ at .zero-funct
 
   own-plain : ¬ T (r .nops && isNop (word g)) → Good (word g)
   own-plain n =
@@ -356,7 +336,7 @@ module _ (r : Row) (ok : Sound r) (va : ℕ) (f : Fields) (fit : Fit f) (t : T (
     raised-le rt = le-at rt
     raised-le rd = le-at rd
     raised-le sa = le-at sa
-    raised-le fn = le-at fn
+    raised-le funct = le-at funct
 
     raised-fit : Fit (raised g)
     raised-fit op = lift-fit r ok f fit op
@@ -364,7 +344,7 @@ module _ (r : Row) (ok : Sound r) (va : ℕ) (f : Fields) (fit : Fit f) (t : T (
     raised-fit rt = lift-fit r ok f fit rt
     raised-fit rd = lift-fit r ok f fit rd
     raised-fit sa = lift-fit r ok f fit sa
-    raised-fit fn = lift-fit r ok f fit fn
+    raised-fit funct = lift-fit r ok f fit funct
 
     raised-match : (x : Field) → T (match (patOf r x) (raised g x))
     raised-match op = match-at op
@@ -372,7 +352,7 @@ module _ (r : Row) (ok : Sound r) (va : ℕ) (f : Fields) (fit : Fit f) (t : T (
     raised-match rt = match-at rt
     raised-match rd = match-at rd
     raised-match sa = match-at sa
-    raised-match fn = match-at fn
+    raised-match funct = match-at funct
 
     raised-read : (x : Field) → T (isRead (patOf r x)) → raised g x ≡ f x
     raised-read op u = lift-read r ok f op u
@@ -380,7 +360,7 @@ module _ (r : Row) (ok : Sound r) (va : ℕ) (f : Fields) (fit : Fit f) (t : T (
     raised-read rt u = lift-read r ok f rt u
     raised-read rd u = lift-read r ok f rd u
     raised-read sa u = lift-read r ok f sa u
-    raised-read fn u = lift-read r ok f fn u
+    raised-read funct u = lift-read r ok f funct u
 
     raised-nop : ¬ T (r .nops && nopLike (raised g))
     raised-nop u = unfold nopLike in and-r (r .nops) false u

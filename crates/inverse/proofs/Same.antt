@@ -1,5 +1,4 @@
 -- When two words have one reading.
--- Assumes nothing.
 use Prim.Native.Nat.{ℕ, _%_, _<_}
 use mathlib.Core.Path.{_≡_, sym, _∙_, ap, subst}
 use mathlib.Core.Bool.{Bool, true, false, cond}
@@ -10,26 +9,29 @@ use native.Mathlib.Omega.{arith}
 use lib.Dec.{T, eqb→eq}
 use lib.ListN.{length}
 use lib.Seq.{ext-getD}
-use Rattle.word.specs.Word.{Field, op, rs, rt, rd, sa, fn, Fields, room, Fit, fieldsOf}
+use Rattle.word.specs.Word.{Field, op, rs, rt, rd, sa, funct, Fields, room, Fit, fieldsOf}
 use Rattle.word.proofs.Fields.{fields-fit, fields-word}
 use Rattle.reading.specs.declared.Op.{Op}
 use Rattle.reading.specs.declared.Op.the-variants.{Reg}
 use Rattle.reading.specs.declared.Insn.{Insn}
 use Rattle.reading.specs.declared.Decoded.{Decoded}
-use Rattle.classes.specs.Row.{Pat, is, read, readBut, skip, skipBut, low, Row, patOf}
+use Rattle.classes.specs.Row.{Pat, is, read, readBut, zeros, extra, skipBut, low, Row, patOf}
 use Rattle.classes.specs.Meaning.{match, takes, find, outs, reading, meaning}
-use Rattle.classes.specs.Refusals.{elem, Refusal}
+use Rattle.laws.specs.Lists.{elem}
+use Rattle.classes.specs.Refusals.{Refusal}
 use Rattle.classes.specs.Theorems.{AgreeAt, Agree}
-use Rattle.classes.proofs.Tests.{chosen}
+use Rattle.laws.proofs.Tests.{chosen}
 use Rattle.classes.proofs.Find.{In, find-in}
 use Rattle.classes.proofs.Uses.{usesForm, isRead, read-agree}
 use Rattle.inverse.specs.Same.{groups, Alike, one-class, twins}
 use Rattle.inverse.proofs.Weigh.{weigh}
-use Rattle.inverse.proofs.Fill.{filled, nth, fill-law}
+use Rattle.inverse.specs.Private.Fill.{filled}
+use Rattle.inverse.specs.Private.Candidate.{operandAt}
+use Rattle.inverse.proofs.Fill.{nth, fill-law}
 use Rattle.inverse.proofs.Rows.{takes-at, Sound, same-read}
 use Rattle.inverse.proofs.Twins.{Pair}
 use Rattle.inverse.proofs.Tables.{Near, same-kind, Good}
-use Rattle.inverse.proofs.Smallest.{answerBy, operandAt, operands-back, near-reading, row-of, answer-is}
+use Rattle.inverse.proofs.Smallest.{answerBy, operands-back, near-reading, row-of, answer-is}
 
 -- ── operands tell the fields that they are made of ──
 
@@ -39,7 +41,7 @@ zero-fits rs = omega arith
 zero-fits rt = omega arith
 zero-fits rd = omega arith
 zero-fits sa = omega arith
-zero-fits fn = omega arith
+zero-fits funct = omega arith
 
 -- the fields that pass a test, and zeros
 abbrev masked : (Field → Bool) → Fields → Fields
@@ -76,7 +78,8 @@ unfolding match isRead
 agree-at (is v) a b s t h = eqb→eq a v s ∙ sym (eqb→eq b v t)
 agree-at read a b s t h = h tt
 agree-at (readBut v) a b s t h = h tt
-agree-at (skip y) a b s t h = tt
+agree-at zeros a b s t h = tt
+agree-at extra a b s t h = tt
 agree-at (skipBut v) a b s t h = tt
 agree-at (low v) a b s t h = eqb→eq (a % 4) v s ∙ sym (eqb→eq (b % 4) v t)
 
@@ -142,13 +145,14 @@ module _ (ts : List Row) (es : List Refusal) (ok : Good ts es) (va w v : ℕ) wh
   back : Alike ts va f g → Same
   unfolding meaning
   back (one-class r p q a) =
-      insn w r p ∙ (ap (reading (r .kind) (r .control) (r .change)) (agree-outs r (ok .rows r ((find-in ts f r p) .0)) va f g a) ∙ sym (insn v r q))
+      insn w r p
+      ∙ (ap (reading (r .kind) (r .manner)) (agree-outs r (ok .rows r ((find-in ts f r p) .0)) va f g a) ∙ sym (insn v r q))
   back (twins r s p q t e) =
       insn w r p
-      ∙ (ap (reading (r .kind) (r .control) (r .change)) e
+      ∙ (ap (reading (r .kind) (r .manner)) e
       ∙ (go (same-kind ts (ok .paired) r s ((find-in ts f r p) .0) ((find-in ts g s q) .0) (t .mnemonic)) (outs (s .form) va g) ∙ sym (insn v s q)))
     where
-      go : Near r s ⊎ Pair s r → (os : List Op) → reading (r .kind) (r .control) (r .change) os ≡ reading (s .kind) (s .control) (s .change) os
+      go : Near r s ⊎ Pair s r → (os : List Op) → reading (r .kind) (r .manner) os ≡ reading (s .kind) (s .manner) os
       go (inl n) os = near-reading r s os (t .mnemonic) n
       go (inr n) os = sym (near-reading s r os (sym (t .mnemonic)) (inr n))
 

@@ -1,5 +1,4 @@
 -- Which word a reading gets: the candidate of the reading's row has the reading and is the smallest, if any word has it.
--- Assumes nothing.
 use Prim.Native.Nat.{ℕ, _≤_, _<_}
 use mathlib.Core.Path.{_≡_, refl, sym, _∙_, ap, subst, fun-ext}
 use mathlib.Core.List.{List}
@@ -7,18 +6,18 @@ use mathlib.Core.Logic.{inl, inr}
 use mathlib.Core.Option.{Option, none, some, Option·some-injective}
 use native.Mathlib.Omega.{arith}
 use lib.Dec.{T}
-use lib.ListN.{length, getD}
+use lib.ListN.{length}
 use Rattle.word.specs.Word.{Fields, Fit, fieldsOf, word, words}
 use Rattle.word.proofs.Fields.{fields-fit, word-small, word-fields, fields-word}
 use Rattle.reading.specs.declared.Op.{Op}
 use Rattle.reading.specs.declared.Operand.{Operand}
 use Rattle.reading.specs.declared.Insn.{Insn}
 use Rattle.reading.specs.declared.Decoded.{Decoded}
-use Rattle.reading.specs.Reading.{unused}
+use Rattle.reading.specs.Reading.{acceptedAs}
 use Rattle.classes.specs.Row.{Row}
 use Rattle.classes.specs.Meaning.{takes, find, outs, intOf, reading, meaning}
 use Rattle.classes.specs.Refusals.{Refusal}
-use Rattle.classes.specs.Decoded.{acceptedAs, decodedBy}
+use Rattle.classes.specs.Decoded.{decodedBy}
 use Rattle.classes.specs.Theorems.{taking}
 use Rattle.classes.proofs.Boxes.{taken-or-refused}
 use Rattle.classes.proofs.Accepts.{none-found, one-taking, accepted-by}
@@ -26,19 +25,16 @@ use Rattle.classes.proofs.Find.{In, find-in, only-row}
 use Rattle.classes.proofs.Operands.{most-outs, slot-at}
 use Rattle.inverse.specs.Encoded.{Has}
 use Rattle.inverse.proofs.Fill.{nth}
-use Rattle.inverse.proofs.Good.{suits}
-use Rattle.inverse.proofs.Rows.{candidate, Sound, Within, own}
+use Rattle.inverse.specs.Private.Candidate.{operandAt, Tries, suits, candidate, pick}
+use Rattle.inverse.proofs.Rows.{Sound, Within, own}
 use Rattle.inverse.proofs.Twins.{valueIn, own-suits, twin-within}
-use Rattle.inverse.proofs.Tables.{pick, Near, Picked, pick-law, Good}
+use Rattle.inverse.proofs.Tables.{Near, Picked, pick-law, Good}
 
 -- the answer for a word at an address, by two tables; decodedOf's, if they are those of the definition
 abbrev pub answerBy : List Row → List Refusal → ℕ → ℕ → Decoded
 answerBy ts es va w = decodedBy ts es va (fieldsOf w)
 
 -- ── the operands of a reading ──
-
-abbrev pub operandAt : List Operand → ℕ → Op
-operandAt xs n = (getD xs n unused) .op
 
 pub operands-back : (r : Row) → Sound r → (va : ℕ) (f : Fields) → operandAt ((meaning r va f) .ops) ≡ nth (outs (r .form) va f)
 unfolding meaning reading
@@ -69,14 +65,10 @@ module _ (ts : List Row) (es : List Refusal) (ok : Good ts es) (va : ℕ) where
 
 -- ── the candidate ──
 
--- what an encoder may try for a reading: the candidate of its row, or anything if it has none
-abbrev pub Tries : List Row → ℕ → Insn → ℕ → Type 0
-Tries ts va i c = (h : Row) → pick ts (i .mnemonic) (intOf (operandAt (i .ops) 1)) ≡ some h → c ≡ candidate h va (i .count) (operandAt (i .ops))
-
 pub near-reading : (h r : Row) (os : List Op) → h .kind ≡ r .kind → Near h r →
-    reading (h .kind) (h .control) (h .change) os ≡ reading (r .kind) (r .control) (r .change) os
-near-reading h r os k (inl e) = ap (λ (x : Row). reading (x .kind) (x .control) (x .change) os) e
-near-reading h r os k (inr p) = λ i. reading (k i) (p .control i) (p .change i) os
+    reading (h .kind) (h .manner) os ≡ reading (r .kind) (r .manner) os
+near-reading h r os k (inl e) = ap (λ (x : Row). reading (x .kind) (x .manner) os) e
+near-reading h r os k (inr p) = λ i. reading (k i) (p .manner i) os
 
 near-within : (h r : Row) → Sound h → Near h r → (va : ℕ) (f : Fields) → Fit f → T (takes r f) → T (suits h (valueIn (outs (r .form) va f))) →
     Within h va (outs (r .form) va f) f (candidate h va (length (outs (r .form) va f)) (nth (outs (r .form) va f)))
@@ -96,7 +88,8 @@ module _ (ts : List Row) (es : List Refusal) (ok : Good ts es) (va : ℕ) where
         reads =
             ap (answerBy ts es va) (s .are)
             ∙ (given ts es ok va h i (s .fields) (s .fit) (s .taken)
-            ∙ ap acceptedAs (ap (reading (h .kind) (h .control) (h .change)) (s .operands) ∙ near-reading h r (outs (r .form) va f) k near));
+            ∙ ap acceptedAs
+            (ap (reading (h .kind) (h .manner)) (s .operands) ∙ near-reading h r (outs (r .form) va f) k near));
       }
 
   -- the row that is picked for the operands of a word of row r, and what its candidate is

@@ -1,36 +1,26 @@
 -- The row of a reading, in a table that passes the test.
--- Assumes nothing.
 use Prim.Native.Nat.{ℕ}
 use mathlib.Core.Path.{_≡_, refl, sym, _∙_, ap, subst}
 use mathlib.Core.Bool.{Bool, true, false, not, cond, _&&_, _||_}
 use mathlib.Core.List.{List, [], _∷_}
 use mathlib.Core.Logic.{_⊎_, inl, inr}
-use mathlib.Core.Option.{Option, none, some, Option·none-ne-some, Option·some-injective}
+use mathlib.Core.Option.{some, Option·none-ne-some, Option·some-injective}
 use borrow.Author.Tests.{eqb-true, eq-eqb}
 use lib.Dec.{T, T-not, eqb, eqb→eq, eqb-refl}
 use lib.IntN.{ℤ}
 use Rattle.reading.specs.Kind as kind
 use Rattle.classes.specs.Row.{Row}
 use Rattle.classes.specs.Refusals.{Refusal}
-use Rattle.classes.proofs.Tests.{and-l, and-r, and-i, implied, at-true, at-false}
+use Rattle.laws.proofs.Tests.{and-l, and-r, and-i, implied, at-true, at-false, EachOf, each-of}
 use Rattle.classes.proofs.Boxes.{exact}
 use Rattle.classes.proofs.Accepts.{numbered}
 use Rattle.classes.proofs.Find.{In, every, every-in}
-use Rattle.inverse.proofs.Good.{sound, holds, suits, twin, paired, good}
+use Rattle.inverse.specs.Private.Candidate.{pick, first, holds, suits}
+use Rattle.inverse.proofs.Good.{sound, twin, paired, good}
 use Rattle.inverse.proofs.Rows.{Sound, sound-row}
 use Rattle.inverse.proofs.Twins.{Pair, twin-pair}
 
 -- ── the row of a reading ──
-
--- the first of the mnemonic that can have the value as its second operand
-unfoldable pub pick : List Row → ℕ → ℤ → Option Row
-pick [] k z = none
-pick (s ∷ ts) k z = cond (eqb (s .kind) k && suits s z) (some s) (pick ts k z)
-
--- the first of the mnemonic
-unfoldable pub first : List Row → ℕ → Option Row
-first [] k = none
-first (s ∷ ts) k = cond (eqb (s .kind) k) (some s) (first ts k)
 
 -- but for `li` that is the same
 pub pick-first : (ts : List Row) (k : ℕ) (z : ℤ) → ¬ (k ≡ kind.li) → pick ts k z ≡ first ts k
@@ -147,16 +137,13 @@ pub record Good (ts : List Row) (es : List Refusal) : Type 0 where
 
 pub good-is : (ts : List Row) (es : List Refusal) → T (good ts es) → Good ts es
 unfolding good
-good-is ts es t =
-    record {
-      exact = and-l (exact ts es) _ t;
-      numbered = and-l (numbered es) _ t₁;
-      rows = λ r i. sound-row r (every-in sound ts (and-l (every sound ts) (paired ts) t₂) r i);
-      paired = and-r (every sound ts) (paired ts) t₂;
-    }
+good-is ts es t = go (each-of (exact ts es ∷ numbered es ∷ every sound ts ∷ paired ts ∷ []) t)
   where
-    t₁ : T (numbered es && (every sound ts && paired ts))
-    t₁ = and-r (exact ts es) _ t
-
-    t₂ : T (every sound ts && paired ts)
-    t₂ = and-r (numbered es) _ t₁
+    go : EachOf (exact ts es ∷ numbered es ∷ every sound ts ∷ paired ts ∷ []) → Good ts es
+    go (exact, (numbered, (rows, (paired, _)))) =
+        record {
+          exact = exact;
+          numbered = numbered;
+          rows = λ r i. sound-row r (every-in sound ts rows r i);
+          paired = paired;
+        }

@@ -1,9 +1,8 @@
 -- Twins: a row that stands before a word's own row in the table and can have the word's operands gives them a word that is no larger.
--- Assumes nothing.
 use Prim.Native.Nat.{ℕ, _+_, _-_, _<_, _≤_}
 use mathlib.Core.Path.{_≡_, refl, sym, _∙_, ap, subst}
 use mathlib.Core.Bool.{Bool, true, false, not, _&&_, _||_}
-use mathlib.Core.List.{List}
+use mathlib.Core.List.{List, [], _∷_}
 use mathlib.Core.Logic.{⊎-elim}
 use native.Mathlib.Decide.{ℕ-discrete}
 use native.Mathlib.Nat.{le-trans}
@@ -18,16 +17,21 @@ use Rattle.word.proofs.Fields.{word-mono, word-op, imm-small}
 use Rattle.word.proofs.Signed.{low16, by-sign}
 use Rattle.reading.specs.declared.Op.{Op}
 use Rattle.reading.specs.Kind as kind
-use Rattle.classes.specs.Row.{Pat, is, read, readBut, skip, skipBut, low, Form, Control-discrete, Change-discrete, Row, patOf}
+use Rattle.classes.specs.Row.{Pat, is, read, readBut, zeros, extra, skipBut, low, Form, Row, patOf}
 use Rattle.classes.specs.Meaning.{match, six, takes, out, outs, intOf}
 use Rattle.classes.specs.Table.{rt-imm, rt-uimm}
-use Rattle.classes.specs.Refusals.{elem}
-use Rattle.classes.proofs.Tests.{and-l, and-r, and-i, or-r, or-e, implies, implied, at-true, six-at, sameForm, same-form, decided}
+use Rattle.laws.specs.Lists.{elem}
+use Rattle.laws.proofs.Tests.{and-l, and-r, and-i, or-r, or-e, implies, implied, at-true, EachOf, each-of}
+use Rattle.classes.specs.Private.Same.{sameForm}
+use Rattle.classes.proofs.Tests.{six-at, same-form, sameManner, same-manner}
 use Rattle.classes.proofs.Uses.{isRead}
 use Rattle.inverse.specs.Same.{groups}
-use Rattle.inverse.proofs.Fill.{filled, nth}
-use Rattle.inverse.proofs.Good.{least, base, inSigned, inUnsigned, holds, suits, sameOperands, sameControl, sameChange, isPlain, before, twin}
-use Rattle.inverse.proofs.Rows.{takes-at, takes-make, least-le, Sound, afterNops, candidate, Within, lift, lift-read, lift-unread, lift-match}
+use Rattle.inverse.specs.Private.Fill.{filled}
+use Rattle.inverse.specs.Private.Candidate.{least, base, inSigned, inUnsigned, holds, suits, afterNops, candidate}
+use Rattle.inverse.proofs.Fill.{nth}
+use Rattle.inverse.proofs.Good.{sameOperands, isPlain, before, twin}
+use Rattle.inverse.proofs.Rows.{takes-at, takes-make, least-le, Sound, Within, lift, lift-read, lift-unread}
+use Rattle.inverse.proofs.Rows.{lift-match}
 use Rattle.inverse.proofs.Rows.{lift-le, lift-fit, same-read, lift-word}
 
 -- ── the two forms of `li` ──
@@ -75,8 +79,7 @@ unsigned-for-signed va f h t =
 
 pub record Pair (h r : Row) : Type 0 where
   pub group : T (elem (r .kind) groups)
-  pub control : h .control ≡ r .control
-  pub change : h .change ≡ r .change
+  pub manner : h .manner ≡ r .manner
   pub nops : T (not (h .nops))
   pub forms : T (sameOperands h r)
   pub plain : (x : Field) → T (isPlain (patOf h x))
@@ -84,43 +87,24 @@ pub record Pair (h r : Row) : Type 0 where
 
 pub twin-pair : (h r : Row) → T (twin h r) → Pair h r
 unfolding twin
-twin-pair h r t =
-    record {
-      group = and-l (elem (r .kind) groups) _ t;
-      control = decided (Control-discrete (h .control) (r .control)) (and-l (sameControl (h .control) (r .control)) _ t₁);
-      change = decided (Change-discrete ℕ-discrete (h .change) (r .change)) (and-l (sameChange (h .change) (r .change)) _ t₂);
-      nops = and-l (not (h .nops)) _ t₃;
-      forms = and-l (sameOperands h r) _ t₄;
-      plain = six-at (λ x. isPlain (patOf h x)) (and-l (six (λ x. isPlain (patOf h x))) (before h r) t₅);
-      order = and-r (six (λ x. isPlain (patOf h x))) (before h r) t₅;
-    }
+twin-pair h r t = go (each-of tests t)
   where
-    b₅ : Bool
-    b₅ = six (λ x. isPlain (patOf h x)) && before h r
+    tests : List Bool
+    tests =
+        elem (r .kind) groups ∷ sameManner (h .manner) (r .manner) ∷ not (h .nops) ∷ sameOperands h r ∷
+        six (λ x. isPlain (patOf h x)) ∷ before h r ∷
+        []
 
-    b₄ : Bool
-    b₄ = sameOperands h r && b₅
-
-    b₃ : Bool
-    b₃ = not (h .nops) && b₄
-
-    b₂ : Bool
-    b₂ = sameChange (h .change) (r .change) && b₃
-
-    t₁ : T (sameControl (h .control) (r .control) && b₂)
-    t₁ = and-r (elem (r .kind) groups) _ t
-
-    t₂ : T b₂
-    t₂ = and-r (sameControl (h .control) (r .control)) b₂ t₁
-
-    t₃ : T b₃
-    t₃ = and-r (sameChange (h .change) (r .change)) b₃ t₂
-
-    t₄ : T b₄
-    t₄ = and-r (not (h .nops)) b₄ t₃
-
-    t₅ : T b₅
-    t₅ = and-r (sameOperands h r) b₅ t₄
+    go : EachOf tests → Pair h r
+    go (group, (manner, (nops, (forms, (plain, (order, _)))))) =
+        record {
+          group = group;
+          manner = same-manner (h .manner) (r .manner) manner;
+          nops = nops;
+          forms = forms;
+          plain = six-at (λ x. isPlain (patOf h x)) plain;
+          order = order;
+        }
 
 -- the forms of twins give the same operands, if h can have the value
 module _ (h r : Row) (va : ℕ) (f : Fields) (fit : Fit f) where
@@ -164,7 +148,8 @@ unfolding match isRead
 plain-match (is v) a t u = absurd u
 plain-match read a t u = tt
 plain-match (readBut v) a t u = absurd t
-plain-match (skip y) a t u = absurd u
+plain-match zeros a t u = absurd u
+plain-match extra a t u = absurd u
 plain-match (skipBut v) a t u = absurd u
 plain-match (low v) a t u = absurd u
 

@@ -1,23 +1,14 @@
 -- A word is a sum over its fields: what some of the fields weigh in it.
--- Assumes nothing.
-use Prim.Native.Nat.{ℕ, _+_, _*_, _^_}
+use Prim.Native.Nat.{ℕ, _+_, _*_}
 use mathlib.Core.Path.{_≡_, refl, _∙_, ap, fun-ext}
 use mathlib.Core.Bool.{Bool, true, false, not, cond, _&&_, _||_}
 use native.Mathlib.Omega.{arith}
 use lib.Dec.{T}
-use Rattle.word.specs.Word.{Field, sameField, op, rs, rt, rd, sa, fn, Fields, word}
+use Rattle.word.specs.Word.{Field, sameField, op, rs, rt, rd, sa, funct, Fields, word}
 use Rattle.word.specs.Numbers.{imm, index}
 use Rattle.classes.proofs.Uses.{uses, low16}
 use Rattle.classes.specs.Row.{jmp}
-
--- what a one in the field adds to the word
-abbrev pub place : Field → ℕ
-place op = 2 ^ 26
-place rs = 2 ^ 21
-place rt = 2 ^ 16
-place rd = 2 ^ 11
-place sa = 2 ^ 6
-place fn = 1
+use Rattle.inverse.specs.Private.Fill.{place}
 
 -- what the fields that pass a test weigh
 unfoldable pub weigh : (Field → Bool) → Fields → ℕ
@@ -55,7 +46,7 @@ weigh-one rs f = omega arith
 weigh-one rt f = omega arith
 weigh-one rd f = omega arith
 weigh-one sa f = omega arith
-weigh-one fn f = omega arith
+weigh-one funct f = omega arith
 
 pub weigh-imm : (f : Fields) → weigh low16 f ≡ imm f
 unfolding weigh word imm

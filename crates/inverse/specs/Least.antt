@@ -1,18 +1,18 @@
 -- THE SMALLEST WORD'S UNREAD FIELDS, in document 01's words: it has zeros in them, except that `rotr`,
 -- `sll zero, zero, 0` and `sll zero, zero, 1` need rs 1.
--- Assumes nothing.
 use Prim.Native.Nat.{ℕ, _/_}
 use mathlib.Core.Path.{_≡_}
 use Rattle.word.specs.Word.{Field, rs, fieldsOf}
 use Rattle.reading.specs.Kind as kind
-use Rattle.classes.specs.Row.{Pat, is, read, readBut, skip, skipBut, low, Row, patOf}
+use Rattle.classes.specs.Row.{Pat, is, read, readBut, zeros, extra, skipBut, low, Row, patOf}
 
 -- what a class that asks this of a field does not read of it is zero
 abbrev pub ZeroAt : Pat → ℕ → Type 0
 ZeroAt (is v) a = Unit {0}
 ZeroAt read a = Unit {0}
 ZeroAt (readBut v) a = Unit {0}
-ZeroAt (skip y) a = a ≡ 0
+ZeroAt zeros a = a ≡ 0
+ZeroAt extra a = a ≡ 0
 ZeroAt (skipBut v) a = a ≡ 0
 ZeroAt (low v) a = a / 4 ≡ 0
 

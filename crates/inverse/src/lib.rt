@@ -1,2 +1,2 @@
-// No code: when two words have one reading, and which word a reading gets. The definitions and theorems stand in specs/, the proofs in
-// proofs/. Stands on `word`, `reading` and `classes`.
+// No code: when two words have one reading, and which word a reading gets. The definitions and theorems are in specs/,
+// the proofs in proofs/. Depends on `word`, `reading` and `classes`.

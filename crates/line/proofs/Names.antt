@@ -1,5 +1,5 @@
--- A padded name without its zeros is the name, and names are short: one computed test of the registers, and one of the mnemonics.
--- Assumes nothing.
+-- A padded name without its zeros is the name, and names are short: one computed test of the registers, and one of
+-- the mnemonics.
 use Prim.Native.Nat.{ℕ, zero, suc, _+_, _≤_}
 use Prim.Native.String.{String}
 use mathlib.Core.Path.{_≡_, ap, _∙_}
@@ -9,16 +9,16 @@ use native.Mathlib.Omega.{arith}
 use lib.Dec.{T, leb, leb→le}
 use lib.ListN.{length, getD}
 use Rattle.reading.specs.Names.{mnemonics, nameOf}
-use Rattle.names.specs.Names.{letter, letters, padded, registers, registerBytes, nameBytes, same}
-use Rattle.names.proofs.Same.{same-eq}
-use Rattle.classes.proofs.Tests.{and-l, and-r}
+use Rattle.names.specs.Names.{registers, registerBytes, nameBytes}
+use Rattle.text.proofs.Texts.{same-eq}
+use Rattle.laws.proofs.Tests.{and-l, and-r}
 use Rattle.buffers.specs.Bytes.{placed}
-use Rattle.text.specs.Text.{beforeZero}
-use Rattle.text.specs.Private.Writes.{Wrote}
-use Rattle.text.proofs.Rows.{wrote, first}
-use Rattle.line.specs.Line.{textOf, registerName}
+use Rattle.text.specs.Text.{letter, letters, padded, same, textOf, beforeZero}
+use Rattle.buffers.specs.Writes.{Wrote}
+use Rattle.buffers.proofs.Writes.{wrote, first}
+use Rattle.line.specs.Line.{registerName, longestRegister, longestMnemonic}
 
--- a name of at most so many letters, padded to `size` bytes
+-- a name of at most `most` letters, padded to `size` bytes
 abbrev isName : ℕ → ℕ → String → Bool
 isName size most s = same (beforeZero (padded size s)) (textOf s) && leb (length (textOf s)) most
 
@@ -34,11 +34,18 @@ module _ (size most : ℕ) where
   each (s ∷ ss) t zero = and-l (isName size most s) (areNames size most ss) t
   each (s ∷ ss) t (suc k) = each ss (and-r (isName size most s) (areNames size most ss) t) k
 
-  name-is : (s : String) → T (isName size most s) → beforeZero (padded size s) ≡ textOf s
-  name-is s t = same-eq (beforeZero (padded size s)) (textOf s) (and-l (same (beforeZero (padded size s)) (textOf s)) (leb (length (textOf s)) most) t)
+  module _ (s : String) (t : T (isName size most s)) where
+    abbrev alike : Bool
+    alike = same (beforeZero (padded size s)) (textOf s)
 
-  name-short : (s : String) → T (isName size most s) → length (textOf s) ≤ most
-  name-short s t = leb→le (length (textOf s)) most (and-r (same (beforeZero (padded size s)) (textOf s)) (leb (length (textOf s)) most) t)
+    abbrev few : Bool
+    few = leb (length (textOf s)) most
+
+    name-is : beforeZero (padded size s) ≡ textOf s
+    name-is = same-eq (beforeZero (padded size s)) (textOf s) (and-l alike few t)
+
+    name-short : length (textOf s) ≤ most
+    name-short = leb→le (length (textOf s)) most (and-r alike few t)
 
 -- ── registers ──
 
@@ -50,7 +57,7 @@ register-name : (r : ℕ) → beforeZero (registerBytes r) ≡ registerName r
 unfolding registerBytes registerName
 register-name r = name-is 4 4 (getD registers r "") (each 4 4 registers all-registers r)
 
-pub register-most : (r : ℕ) → length (registerName r) ≤ 4
+pub register-most : (r : ℕ) → length (registerName r) ≤ longestRegister
 unfolding registerName
 register-most r = name-short 4 4 (getD registers r "") (each 4 4 registers all-registers r)
 
@@ -64,18 +71,23 @@ mnemonic-name : (k : ℕ) → beforeZero (nameBytes k) ≡ textOf (nameOf k)
 unfolding nameBytes nameOf
 mnemonic-name k = name-is 16 9 (getD mnemonics k "") (each 16 9 mnemonics all-mnemonics k)
 
-pub mnemonic-most : (k : ℕ) → length (textOf (nameOf k)) ≤ 9
+pub mnemonic-most : (k : ℕ) → length (textOf (nameOf k)) ≤ longestMnemonic
 unfolding nameOf
 mnemonic-most k = name-short 16 9 (getD mnemonics k "") (each 16 9 mnemonics all-mnemonics k)
 
 -- ── names that were written, without their zeros ──
 
-pub register-wrote : (r at : ℕ) (d : List ℕ) {n : ℕ} {b d′ : List ℕ} → b ≡ registerBytes r → at + 4 ≤ length d → n ≡ length (beforeZero b) → d′ ≡ placed at (beforeZero b) d → Wrote at 4 (registerName r) d d′ (at + n)
+pub register-wrote : (r at : ℕ) (d : List ℕ) {n : ℕ} {b d′ : List ℕ} → b ≡ registerBytes r →
+    at + longestRegister ≤ length d → n ≡ length (beforeZero b) → d′ ≡ placed at (beforeZero b) d →
+    Wrote at longestRegister (registerName r) d d′ (at + n)
 register-wrote r at d {b = b} e h z w =
     let p : beforeZero b ≡ registerName r = ap beforeZero e ∙ register-name r in
-    wrote (register-most r) (omega (arith, register-most r)) (z ∙ ap length p) (w ∙ ap (λ (l : List ℕ). placed at l d) p)
+    wrote (register-most r) (omega (arith, register-most r)) (z ∙ ap length p)
+    (w ∙ ap (λ (l : List ℕ). placed at l d) p)
 
-pub mnemonic-wrote : (k : ℕ) (d : List ℕ) {n : ℕ} {b d′ : List ℕ} → b ≡ nameBytes k → 9 ≤ length d → n ≡ length (beforeZero b) → d′ ≡ placed 0 (beforeZero b) d → Wrote 0 9 (textOf (nameOf k)) d d′ n
+pub mnemonic-wrote : (k : ℕ) (d : List ℕ) {n : ℕ} {b d′ : List ℕ} → b ≡ nameBytes k →
+    longestMnemonic ≤ length d → n ≡ length (beforeZero b) → d′ ≡ placed 0 (beforeZero b) d →
+    Wrote 0 longestMnemonic (textOf (nameOf k)) d d′ n
 mnemonic-wrote k d {b = b} e h z w =
     let p : beforeZero b ≡ textOf (nameOf k) = ap beforeZero e ∙ mnemonic-name k in
     first (mnemonic-most k) (omega (arith, mnemonic-most k)) (z ∙ ap length p) (w ∙ ap (λ (l : List ℕ). placed 0 l d) p)

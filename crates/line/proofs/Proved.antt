@@ -1,5 +1,4 @@
 -- What specs/Theorems.antt states, proved.
--- Assumes nothing.
 use mathlib.Core.Path.{_≡_, refl}
 use mathlib.Core.Bool.{true}
 use lib.ListN.{length}
@@ -9,21 +8,23 @@ use Rattle.reading.specs.Names.{mnemonics, nameOf}
 use Rattle.classes.specs.Meaning.{match, six, nopLike, takes, find, out, outs, reading, meaning}
 use Rattle.classes.specs.Table.{common, byWidth, table}
 use Rattle.classes.specs.Decoded.{decodedBy, decodedOf}
-use Rattle.names.specs.Names.{letter, letters, registers}
-use Rattle.text.specs.Text.{lastOf, numeralOf, decimalOf, addressOf}
-use Rattle.line.specs.Line.{textOf, registerName, opText, listed, lineOf, allRegistered, printable}
-use Rattle.line.specs.Theorems.{longest, Examples, Theorems}
+use Rattle.names.specs.Names.{registers}
+use Rattle.text.specs.Text.{letter, letters, textOf, lastOf, numeralOf, decimalOf, addressOf}
+use Rattle.line.specs.Line.{registerName, plain, opText, listed, lineOf, allRegistered, printable, longest}
+use Rattle.line.specs.Theorems.{longReading, Examples, Theorems}
 use Rattle.line.proofs.Readable.{readable}
-use Rattle.line.proofs.Short.{short}
+use Rattle.line.proofs.Short.{short, within}
 
-tight : (printable longest ≡ true) × (length (lineOf longest) ≡ 120)
-unfolding printable allRegistered lineOf listed opText registerName registers textOf letters letter nameOf mnemonics decimalOf numeralOf lastOf
+tight : (printable longReading ≡ true) × (length (lineOf plain longReading) ≡ longest)
+unfolding printable allRegistered lineOf listed opText registerName registers textOf letters letter
+    nameOf mnemonics decimalOf numeralOf lastOf
 tight = (refl, refl)
 
 examples : Examples
-unfolding decodedOf decodedBy table common byWidth find takes six match nopLike fieldsOf meaning reading outs out imm index signed branchTo jumpTo sizeOf
-    lineOf listed opText registerName registers textOf letters letter nameOf mnemonics decimalOf addressOf numeralOf lastOf
+unfolding decodedOf decodedBy table common byWidth find takes six match nopLike fieldsOf meaning reading outs out
+    imm index signed branchTo jumpTo sizeOf lineOf listed opText registerName registers textOf letters letter
+    nameOf mnemonics decimalOf addressOf numeralOf lastOf
 examples = record { lui = λ va. refl; jal = refl; lw = λ va. refl; jr = λ va. refl; nop = λ va. refl; ins = λ va. refl }
 
 pub theorems : Theorems
-theorems = record { readable = readable; short = short; tight = tight; examples = examples }
+theorems = record { readable = readable; short = λ σ. short; within = within; tight = tight; examples = examples }

@@ -1,5 +1,5 @@
--- The reading of every word has a line: its registers are fields of five bits, it has at most four operands, and its mnemonic a name.
--- Assumes nothing.
+-- The reading of every word has a line: its registers are fields of five bits, it has at most four operands, and its
+-- mnemonic a name.
 use Prim.Native.Nat.{ℕ, _≤_}
 use mathlib.Core.Path.{_≡_, refl}
 use mathlib.Core.Bool.{Bool, true, false, _&&_}
@@ -16,9 +16,10 @@ use Rattle.reading.specs.Reading.{operand, blankInsn}
 use Rattle.classes.specs.Row.{Code, reg, freg, cop0, num, size, s16, u16, mem, br, jmp, Row}
 use Rattle.classes.specs.Meaning.{out, outs, reading, meaning}
 use Rattle.classes.specs.Table.{table, common, byWidth}
-use Rattle.classes.specs.Decoded.{decodedOf}
-use Rattle.classes.proofs.Tests.{and-l, and-r}
-use Rattle.classes.proofs.Find.{every, each-reading}
+use Rattle.classes.specs.Refusals.{Refusal, refusals}
+use Rattle.classes.specs.Decoded.{decodedBy, decodedOf}
+use Rattle.laws.proofs.Tests.{and-l, and-r}
+use Rattle.classes.proofs.Find.{every, reading-by}
 use Rattle.classes.proofs.Operands.{operandsIn, known, known-kind, known-most, Each, eachCode, outs-each, in-use}
 use Rattle.line.specs.Line.{registered, allRegistered, printable}
 
@@ -28,7 +29,7 @@ use Rattle.line.specs.Line.{registered, allRegistered, printable}
 abbrev registerField : Field → Bool
 registerField x = leb (room x) 32
 
-goodCode : Code → Bool
+unfoldable pub goodCode : Code → Bool
 goodCode (reg x) = registerField x
 goodCode (freg x) = registerField x
 goodCode (cop0 x) = registerField x
@@ -40,7 +41,7 @@ goodCode mem = true
 goodCode br = true
 goodCode jmp = true
 
-abbrev Registered : Op → Type 0
+abbrev pub Registered : Op → Type 0
 Registered o = registered o ≡ true
 
 module _ (w va : ℕ) where
@@ -68,26 +69,42 @@ all-registered (o ∷ os) h = rw (h .0) (all-registered os (h .1))
 
 -- ── a word's reading ──
 
-goodRow : Row → Bool
+unfoldable pub goodRow : Row → Bool
 goodRow r = known r && eachCode goodCode (r .form)
 
-good-rows : (wide : Bool) → T (every goodRow (table wide))
+pub good-rows : (wide : Bool) → T (every goodRow (table wide))
 unfolding every goodRow known operandsIn eachCode goodCode table common byWidth
 good-rows true = tt
 good-rows false = tt
 
-row-printable : (r : Row) (w va : ℕ) → T (goodRow r) → printable (meaning r va (fieldsOf w)) ≡ true
-unfolding printable meaning reading goodRow
-row-printable r w va t =
-    let os : List Op = outs (r .form) va (fieldsOf w) in
-    let k : T (known r) = and-l (known r) _ t in
-    let h : length os ≤ 4 = known-most r k va (fieldsOf w) in
-    rw (lt-ltb (r .kind) many (known-kind r k), le-leb (length os) 4 h, in-use operand os h)
-    (all-registered os (outs-each Registered goodCode va (fieldsOf w) (out-registered w va) refl (r .form) (and-r (known r) _ t)))
+module _ (r : Row) (w va : ℕ) (t : T (goodRow r)) where
+  pub good-known : T (known r)
+  unfolding goodRow
+  good-known = and-l (known r) _ t
+
+  pub outs-registered : Each Registered (outs (r .form) va (fieldsOf w))
+  unfolding goodRow
+  outs-registered =
+      outs-each Registered goodCode va (fieldsOf w) (out-registered w va) refl (r .form) (and-r (known r) _ t)
+
+  row-printable : printable (meaning r va (fieldsOf w)) ≡ true
+  unfolding printable meaning reading
+  row-printable =
+      let os : List Op = outs (r .form) va (fieldsOf w) in
+      let h : length os ≤ 4 = known-most r good-known va (fieldsOf w) in
+      rw (lt-ltb (r .kind) many (known-kind r good-known), le-leb (length os) 4 h, in-use operand os h)
+      (all-registered os outs-registered)
 
 pub blank-printable : printable blankInsn ≡ true
 unfolding printable allRegistered
 blank-printable = refl
 
+-- THE LAW for any table whose rows pass the test
+pub readable-by : (ts : List Row) (es : List Refusal) → T (every goodRow ts) → (w va : ℕ) →
+    printable ((decodedBy ts es va (fieldsOf w)) .insn) ≡ true
+readable-by ts es t w va =
+    reading-by (λ i. printable i ≡ true) goodRow blank-printable ts es t va (fieldsOf w) (λ r. row-printable r w va)
+
 pub readable : (w va : ℕ) (wide : Bool) → printable ((decodedOf w va wide) .insn) ≡ true
-readable w va wide = each-reading (λ i. printable i ≡ true) goodRow blank-printable w va wide (good-rows wide) (λ r. row-printable r w va)
+unfolding decodedOf
+readable w va wide = readable-by (table wide) refusals (good-rows wide) w va

@@ -1,121 +1,123 @@
--- How long the line of a word is at most: one computed test of each row of the table, and what it means for every word.
--- Assumes nothing.
-use Prim.Native.Nat.{ℕ, _+_, _≤_}
-use mathlib.Core.Bool.{Bool, true, false, _&&_}
+-- The line of every word is short, in every spelling within its limits: an operand has at most 26 bytes, and there are
+-- at most four.
+use Prim.Native.Nat.{ℕ, _+_, _*_, _-_, _^_, _≤_, _<_}
+use mathlib.Core.Path.{_≡_}
+use mathlib.Core.Bool.{Bool, true}
 use mathlib.Core.List.{List, [], _∷_, map}
 use native.Mathlib.Omega.{arith}
-use lib.Dec.{T, leb, eqb, leb→le}
+use lib.Dec.{T}
+use lib.IntN.{ℤ}
+use lib.Signed.{natAbs-le}
 use lib.ListN.{length, length-append}
-use Rattle.word.specs.Word.{Fields, fieldsOf, rs, rd}
+use borrow.Author.Tests.{ltb-true}
+use mir.Syntax.{w64}
+use mir.Val.{SFits}
+use Rattle.word.specs.Word.{fieldsOf, rd, sa}
+use Rattle.word.specs.Numbers.{imm, index}
+use Rattle.word.proofs.Fields.{fields-fit, field-small, imm-small, index-small}
+use Rattle.word.proofs.Signed.{signed-fits, size-fits, branch-small, jump-small}
 use Rattle.reading.specs.declared.Op.{Op}
 use Rattle.reading.specs.declared.Op.the-variants.{Reg, FReg, Imm, Mem, Addr, Cop0}
 use Rattle.reading.specs.Reading.{operand, blankInsn}
-use Rattle.classes.specs.Row.{Code, reg, freg, cop0, num, size, s16, u16, mem, br, jmp, Form, end, _▸_, posSize, link, Row}
+use Rattle.classes.specs.Row.{Code, reg, freg, cop0, num, size, s16, u16, mem, br, jmp, Form, Row}
 use Rattle.classes.specs.Meaning.{out, outs, reading, meaning}
-use Rattle.classes.specs.Table.{common, byWidth, table}
-use Rattle.classes.specs.Decoded.{decodedOf}
-use Rattle.classes.proofs.Tests.{and-l, and-r, either}
-use Rattle.classes.proofs.Find.{every, each-reading}
-use Rattle.classes.proofs.Operands.{operandsIn, known, known-most, in-use}
-use Rattle.names.specs.Names.{letters}
-use Rattle.text.proofs.Lengths.{numeral-most, decimal-most, address-most}
-use Rattle.line.specs.Line.{textOf, opText, listed, lineOf}
+use Rattle.classes.specs.Table.{table}
+use Rattle.classes.specs.Refusals.{Refusal, refusals}
+use Rattle.classes.specs.Decoded.{decodedBy, decodedOf}
+use Rattle.classes.proofs.Find.{every, reading-by}
+use Rattle.classes.proofs.Operands.{known-most, Each, outs-each, any-code, in-use}
+use Rattle.text.specs.Text.{letters, textOf, decimalOf}
+use Rattle.text.proofs.Lengths.{numeral-most, decimal-short, address-short}
+use Rattle.line.specs.Line.{Spelling, plain, opText, listed, lineOf}
+use Rattle.line.specs.Line.{longestMnemonic, longestOperand, longest, Within}
 use Rattle.line.proofs.Names.{register-most, mnemonic-most}
+use Rattle.line.proofs.Readable.{Registered, goodRow, good-rows, good-known, outs-registered}
 
--- ── an operand ──
+-- document 01's spelling keeps to the limits
+pub within : Within plain
+within = record { register = λ r h. register-most r; address = address-short }
 
--- the bytes that an operand has at most
-abbrev widest : Op → ℕ
-widest (Reg r) = 4
-widest (FReg r) = 21
-widest (Imm z) = 21
-widest (Mem z r) = 27
-widest (Addr a) = 22
-widest (Cop0 r) = 23
+-- ── what the operands of a word hold: signed numbers and addresses of 64 bits ──
 
-op-most : (o : Op) → length (opText o) ≤ widest o
-unfolding opText textOf letters
-op-most (Reg r) = register-most r
-op-most (FReg r) = simp length-append (omega (arith, numeral-most 10 r))
-op-most (Imm z) = decimal-most z
-op-most (Mem z r) = simp length-append (omega (arith, decimal-most z, register-most r))
-op-most (Addr a) = address-most a
-op-most (Cop0 r) = simp length-append (omega (arith, numeral-most 10 r))
+abbrev Held : Op → Type 0
+Held (Reg r) = Unit {0}
+Held (FReg r) = Unit {0}
+Held (Imm z) = SFits w64 z
+Held (Mem z r) = SFits w64 z
+Held (Addr a) = a < 2 ^ 64
+Held (Cop0 r) = Unit {0}
 
--- ── a row of operands, each with two bytes before it at most ──
+module _ (w va : ℕ) where
+  out-held : (c : Code) → Held (out c va (fieldsOf w))
+  unfolding out
+  out-held (reg x) = tt
+  out-held (freg x) = tt
+  out-held (cop0 x) = tt
+  out-held (num x) = record { sfits = omega (arith, field-small (fieldsOf w) (fields-fit w) x) }
+  out-held size = record { sfits = omega (arith, fields-fit w rd) }
+  out-held s16 = signed-fits (imm (fieldsOf w)) (imm-small (fieldsOf w) (fields-fit w))
+  out-held u16 = record { sfits = omega (arith, imm-small (fieldsOf w) (fields-fit w)) }
+  out-held mem = signed-fits (imm (fieldsOf w)) (imm-small (fieldsOf w) (fields-fit w))
+  out-held br = branch-small va (imm (fieldsOf w))
+  out-held jmp = jump-small va (index (fieldsOf w)) (index-small (fieldsOf w) (fields-fit w))
 
-abbrev total : List Op → ℕ
-total [] = 0
-total (o ∷ os) = 2 + widest o + total os
+  outs-held : (φ : Form) → Each Held (outs φ va (fieldsOf w))
+  outs-held φ =
+      outs-each Held (λ c. true) va (fieldsOf w) (λ c t. out-held c)
+      (size-fits (fieldsOf w rd) (fieldsOf w sa) (omega (arith, fields-fit w rd)) (omega (arith, fields-fit w sa)))
+      φ (any-code φ)
 
-listed-most : (b : List ℕ) (os : List Op) → length b ≤ 2 → length (listed b (map operand os)) ≤ total os
-unfolding listed textOf letters
-listed-most b [] h = omega arith
-listed-most b (o ∷ os) h = simp length-append (omega (arith, op-most o, listed-most (textOf ", ") os (omega arith)))
+signed-most : (z : ℤ) → SFits w64 z → length (decimalOf z) ≤ 20
+signed-most z f = decimal-short z (natAbs-le z (f .sfits))
 
--- ── the operands of a form ──
+module _ {σ : Spelling} (limits : Within σ) where
+  -- ── an operand ──
 
-unfoldable cost : Code → ℕ
-cost (reg x) = 4
-cost (freg x) = 21
-cost (cop0 x) = 23
-cost (num x) = 21
-cost size = 21
-cost s16 = 21
-cost u16 = 21
-cost mem = 27
-cost br = 22
-cost jmp = 22
+  op-most : (o : Op) → Registered o → Held o → length (opText σ o) ≤ longestOperand
+  unfolding opText textOf letters
+  op-most (Reg r) e h = omega (arith, limits .register r (ltb-true r 32 e))
+  op-most (FReg r) e h = simp length-append (omega (arith, numeral-most 10 r))
+  op-most (Imm z) e h = omega (arith, signed-most z h)
+  op-most (Mem z r) e h = simp length-append (omega (arith, signed-most z h, limits .register r (ltb-true r 32 e)))
+  op-most (Addr a) e h = omega (arith, limits .address a h)
+  op-most (Cop0 r) e h = simp length-append (omega (arith, numeral-most 10 r))
 
-out-most : (c : Code) (va : ℕ) (f : Fields) → widest (out c va f) ≤ cost c
-unfolding out cost
-out-most (reg x) va f = omega arith
-out-most (freg x) va f = omega arith
-out-most (cop0 x) va f = omega arith
-out-most (num x) va f = omega arith
-out-most size va f = omega arith
-out-most s16 va f = omega arith
-out-most u16 va f = omega arith
-out-most mem va f = omega arith
-out-most br va f = omega arith
-out-most jmp va f = omega arith
+  -- ── a row of operands ──
 
-unfoldable width : Form → ℕ
-width end = 0
-width (c ▸ φ) = 2 + cost c + width φ
-width posSize = 46
-width link = 12
+  next-most : (os : List Op) → Each Registered os → Each Held os →
+      length (listed σ (textOf ", ") (map operand os)) ≤ (2 + longestOperand) * length os
+  unfolding listed textOf letters
+  next-most [] rs hs = omega arith
+  next-most (o ∷ os) (r, rs) (h, hs) = simp length-append (omega (arith, op-most o r h, next-most os rs hs))
 
-outs-most : (φ : Form) (va : ℕ) (f : Fields) → total (outs φ va f) ≤ width φ
-unfolding outs width
-outs-most end va f = omega arith
-outs-most (c ▸ φ) va f = omega (arith, out-most c va f, outs-most φ va f)
-outs-most posSize va f = omega arith
-outs-most link va f =
-    either (λ os. total os ≤ 12) (eqb (f rd) 31) {x = Reg (f rs) ∷ []} {y = Reg (f rd) ∷ Reg (f rs) ∷ []} (omega arith) (omega arith)
+  -- the first has a space alone before it
+  first-most : (os : List Op) → Each Registered os → Each Held os → length os ≤ 4 →
+      length (listed σ (textOf " ") (map operand os)) ≤ longest - longestMnemonic
+  unfolding listed textOf letters
+  first-most [] rs hs l = omega arith
+  first-most (o ∷ os) (r, rs) (h, hs) l = simp length-append (omega (arith, op-most o r h, next-most os rs hs))
 
--- ── the line ──
+  -- ── the line ──
 
-narrow : Row → Bool
-narrow r = known r && leb (width (r .form)) 111
+  row-short : (w va : ℕ) (r : Row) → T (goodRow r) → length (lineOf σ (meaning r va (fieldsOf w))) ≤ longest
+  unfolding lineOf meaning reading
+  row-short w va r t =
+      let os = outs (r .form) va (fieldsOf w) in
+      let l = known-most r (good-known r w va t) va (fieldsOf w) in
+      let most = first-most os (outs-registered r w va t) (outs-held w va (r .form)) l in
+      rw (in-use operand os l) (simp length-append (omega (arith, mnemonic-most (r .kind), most)))
 
-all-narrow : (wide : Bool) → T (every narrow (table wide))
-unfolding every narrow known operandsIn width cost table common byWidth
-all-narrow true = tt
-all-narrow false = tt
-
-row-short : (r : Row) (va : ℕ) (f : Fields) → T (narrow r) → length (lineOf (meaning r va f)) ≤ 120
-unfolding narrow lineOf meaning reading textOf letters
-row-short r va f t =
-    let os = outs (r .form) va f in
-    rw (in-use operand os (known-most r (and-l (known r) _ t) va f))
-    (simp length-append
-    (omega (arith, mnemonic-most (r .kind), listed-most (textOf " ") os (omega arith), outs-most (r .form) va f, leb→le (width (r .form)) 111 (and-r (known r) _ t))))
-
-pub blank-short : length (lineOf blankInsn) ≤ 120
+pub blank-short : (σ : Spelling) → length (lineOf σ blankInsn) ≤ longest
 unfolding lineOf listed
-blank-short = simp length-append (omega (arith, mnemonic-most 0))
+blank-short σ = simp length-append (omega (arith, mnemonic-most 0))
 
--- the line of every word has at most 120 bytes
-pub short : (w va : ℕ) (wide : Bool) → length (lineOf (decodedOf w va wide .insn)) ≤ 120
-short w va wide = each-reading (λ i. length (lineOf i) ≤ 120) narrow blank-short w va wide (all-narrow wide) (λ r. row-short r va (fieldsOf w))
+-- THE LAW for any table whose rows pass the test
+pub short-by : {σ : Spelling} → Within σ → (ts : List Row) (es : List Refusal) → T (every goodRow ts) → (w va : ℕ) →
+    length (lineOf σ (decodedBy ts es va (fieldsOf w) .insn)) ≤ longest
+short-by {σ} s ts es t w va =
+    reading-by (λ i. length (lineOf σ i) ≤ longest) goodRow (blank-short σ) ts es t va (fieldsOf w) (row-short s w va)
+
+pub short : {σ : Spelling} → Within σ → (w va : ℕ) (wide : Bool) →
+    length (lineOf σ (decodedOf w va wide .insn)) ≤ longest
+unfolding decodedOf
+short s w va wide = short-by s (table wide) refusals (good-rows wide) w va

@@ -1,5 +1,4 @@
 -- WHAT IS PROVED OF THE LINES. The proofs stand in proofs/Proved.antt.
--- Assumes nothing.
 use Prim.Native.Nat.{ℕ, _^_, _-_, _≤_}
 use mathlib.Core.Path.{_≡_}
 use mathlib.Core.Bool.{Bool, true, false}
@@ -15,21 +14,22 @@ use Rattle.reading.specs.declared.Insn.{Insn}
 use Rattle.reading.specs.Kind as kind
 use Rattle.reading.specs.Reading.{operand}
 use Rattle.classes.specs.Decoded.{decodedOf}
-use Rattle.line.specs.Line.{textOf, lineOf, printable}
+use Rattle.text.specs.Text.{textOf}
+use Rattle.line.specs.Line.{Spelling, plain, lineOf, printable, longest, Within}
 
 -- ── the longest line ──
 
 -- -9223372036854775808(zero)
-abbrev pub widest : Operand
-widest = operand (Mem (negsuc (2 ^ 63 - 1)) 0)
+abbrev pub longOperand : Operand
+longOperand = operand (Mem (negsuc (2 ^ 63 - 1)) 0)
 
 -- a mnemonic of nine letters, and that operand four times
-abbrev pub longest : Insn
-longest =
+abbrev pub longReading : Insn
+longReading =
     record {
       mnemonic = kind.trunc-w-s;
       count = 4;
-      ops = widest ∷ widest ∷ widest ∷ widest ∷ [];
+      ops = longOperand ∷ longOperand ∷ longOperand ∷ longOperand ∷ [];
       flow = flow.None;
       target = target.None;
       «delay_slot» = false;
@@ -40,7 +40,7 @@ longest =
 
 -- the line of a word at an address
 abbrev pub lineAt : ℕ → ℕ → List ℕ
-lineAt w va = lineOf ((decodedOf w va false) .insn)
+lineAt w va = lineOf plain ((decodedOf w va false) .insn)
 
 -- at any address, but for the one with a target
 pub record Examples : Type 0 where
@@ -54,8 +54,11 @@ pub record Examples : Type 0 where
 pub record Theorems : Type 0 where
   -- the reading of every word has a line, at any address and with either flag; a refused word's is the blank one
   pub readable : (w va : ℕ) (wide : Bool) → printable ((decodedOf w va wide) .insn) ≡ true
-  -- that line has at most 120 bytes
-  pub short : (w va : ℕ) (wide : Bool) → length (lineOf ((decodedOf w va wide) .insn)) ≤ 120
-  -- there is a line of 120 bytes, so many as `print` asks for to take any line
-  pub tight : (printable longest ≡ true) × (length (lineOf longest) ≡ 120)
+  -- that line has at most 120 bytes, in every spelling within its limits
+  pub short : (σ : Spelling) → Within σ → (w va : ℕ) (wide : Bool) →
+      length (lineOf σ ((decodedOf w va wide) .insn)) ≤ longest
+  -- document 01's spelling is
+  pub within : Within plain
+  -- and has a line of 120 bytes: `print` asks for no more room than a line can need
+  pub tight : (printable longReading ≡ true) × (length (lineOf plain longReading) ≡ longest)
   pub examples : Examples

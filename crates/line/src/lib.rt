@@ -1,5 +1,5 @@
 // The printed line of a reading: mnemonic and operands, as the source's `format!`s would have them.
-// Stands on `names` for the names and on `text` for the numbers; specs/Line.antt says what a line is.
+// Depends on `names` for the names and on `text` for the numbers; specs/Line.antt says what a line is.
 ghost use mathlib.Core.Path.{_≡_};
 ghost use mathlib.Core.Bool.{true};
 ghost use mathlib.Core.List.{_++_};
@@ -8,21 +8,16 @@ ghost use lib.ListN.{length};
 ghost use Rattle.reading.specs.declared.Op.the-variants.{Mem};
 ghost use Rattle.buffers.specs.Bytes.{over};
 ghost use Rattle.text.specs.Text.{numeralOf};
-ghost use Rattle.text.specs.Private.Writes.{Wrote};
+ghost use Rattle.buffers.specs.Writes.{Wrote};
 ghost use Rattle.line.specs.Line as Line;
-ghost use Rattle.line.specs.Line.{registerName, opText, lineOf, printed, printedOf};
+ghost use Rattle.line.specs.Line.{plain, opText, lineOf, printed, printedOf};
+ghost use Rattle.line.specs.Line.{longestRegister, longestOperand, longest};
 ghost use Rattle.line.specs.Private.Steps.{before};
 use reading::Insn;
 use reading::Op;
 use reading::kind;
 
-// Over four operands, a register above 31 in one that is used, or a mnemonic without a name.
-pub const NO_LINE: u8 = 10;
-
-// The line, or the first line of a page, has no room.
-pub const NO_ROOM: u8 = 11;
-
-// So many bytes hold any line.
+// Any line fits in this many bytes.
 pub const LONGEST: usize = 120;
 
 const OPERANDS: u8 = 4;
@@ -50,6 +45,7 @@ fn registered(o: Op) -> bool
     }
 }
 
+// Over four operands, a register above 31 in one that is used, or a mnemonic without a name: no line.
 fn printable(i: Insn) -> bool
     ensures { λ r. ⌜ r ≡ Line.printable i ⌝ }
 {
@@ -78,8 +74,8 @@ fn printable(i: Insn) -> bool
 // Each of the functions below writes to `line` from place `at` on, and answers the place after that.
 
 fn register(r: u8, line: &mut [u8], at: usize) -> usize
-    requires { ⌜ (r < 32) × (at + 4 ≤ length (now line)) ⌝ }
-    ensures { λ x. ⌜ Wrote at 4 (registerName r) (now (line .entry)) (now (line .exit)) x ⌝ }
+    requires { ⌜ (r < 32) × (at + longestRegister ≤ length (now line)) ⌝ }
+    ensures { λ x. ⌜ Wrote at longestRegister (plain .register r) (now (line .entry)) (now (line .exit)) x ⌝ }
 {
     let name = names::register(r);
     at + text::name(&name, line, at)
@@ -87,8 +83,9 @@ fn register(r: u8, line: &mut [u8], at: usize) -> usize
 
 // A letter or three, and a number.
 fn numbered(before: &[u8], r: u8, line: &mut [u8], at: usize) -> usize
-    requires { ⌜ (length (now before) ≤ 3) × (at + 26 ≤ length (now line)) ⌝ }
-    ensures { λ x. ⌜ Wrote at 26 (now (before .entry) ++ numeralOf 10 r) (now (line .entry)) (now (line .exit)) x ⌝ }
+    requires { ⌜ (length (now before) ≤ 3) × (at + longestOperand ≤ length (now line)) ⌝ }
+    ensures { λ x. ⌜ Wrote at longestOperand (now (before .entry) ++ numeralOf 10 r)
+        (now (line .entry)) (now (line .exit)) x ⌝ }
 {
     buffers::put(before, line, at);
     let next = at + before.len();
@@ -96,8 +93,9 @@ fn numbered(before: &[u8], r: u8, line: &mut [u8], at: usize) -> usize
 }
 
 fn memory(offset: i64, base: u8, line: &mut [u8], at: usize) -> usize
-    requires { ⌜ (base < 32) × (at + 26 ≤ length (now line)) ⌝ }
-    ensures { λ x. ⌜ Wrote at 26 (opText (Mem offset base)) (now (line .entry)) (now (line .exit)) x ⌝ }
+    requires { ⌜ (base < 32) × (at + longestOperand ≤ length (now line)) ⌝ }
+    ensures { λ x. ⌜ Wrote at longestOperand (opText plain (Mem offset base))
+        (now (line .entry)) (now (line .exit)) x ⌝ }
 {
     let open = at + text::decimal(offset, line, at);
     buffers::put1(b'(', line, open);
@@ -107,8 +105,8 @@ fn memory(offset: i64, base: u8, line: &mut [u8], at: usize) -> usize
 }
 
 fn operand(o: Op, line: &mut [u8], at: usize) -> usize
-    requires { ⌜ (Line.registered o ≡ true) × (at + 26 ≤ length (now line)) ⌝ }
-    ensures { λ x. ⌜ Wrote at 26 (opText o) (now (line .entry)) (now (line .exit)) x ⌝ }
+    requires { ⌜ (Line.registered o ≡ true) × (at + longestOperand ≤ length (now line)) ⌝ }
+    ensures { λ x. ⌜ Wrote at longestOperand (opText plain o) (now (line .entry)) (now (line .exit)) x ⌝ }
 {
     match o {
         Op::Reg(r) => register(r, line, at),
@@ -138,7 +136,7 @@ fn separator(k: usize, line: &mut [u8], at: usize) -> usize
 
 fn fill(i: Insn, line: &mut [u8; LONGEST]) -> usize
     requires { ⌜ Line.printable i ≡ true ⌝ }
-    ensures { λ x. ⌜ Wrote 0 120 (lineOf i) (now (line .entry)) (now (line .exit)) x ⌝ }
+    ensures { λ x. ⌜ Wrote 0 longest (lineOf plain i) (now (line .entry)) (now (line .exit)) x ⌝ }
 {
     let name = names::name_of(i.mnemonic);
     let mut at = text::name(&name, line, 0);
@@ -157,13 +155,13 @@ fn fill(i: Insn, line: &mut [u8; LONGEST]) -> usize
 
 // The line of a reading, to the start of `out`. Where there is room for LONGEST bytes, any line fits.
 pub fn print(i: Insn, out: &mut [u8]) -> Printed
-    ensures { λ r. ⌜ r ≡ printedOf i (length (now (out .entry))) ⌝ }
-    ensures { λ _. ⌜ now (out .exit) ≡ over (printed i (length (now (out .entry)))) (now (out .entry)) ⌝ }
-    ensures { λ r. ⌜ (Line.printable i ≡ true → 120 ≤ length (now (out .entry)) → r .number ≡ 0) ⌝ }
+    ensures { λ r. ⌜ r ≡ printedOf plain i (length (now (out .entry))) ⌝ }
+    ensures { λ _. ⌜ now (out .exit) ≡ over (printed plain i (length (now (out .entry)))) (now (out .entry)) ⌝ }
+    ensures { λ r. ⌜ (Line.printable i ≡ true → longest ≤ length (now (out .entry)) → r .number ≡ 0) ⌝ }
 {
     if !printable(i) {
         return Printed {
-            number: NO_LINE,
+            number: refusal::NO_LINE,
             length: 0,
         };
     }
@@ -171,7 +169,7 @@ pub fn print(i: Insn, out: &mut [u8]) -> Printed
     let n = fill(i, &mut line);
     if out.len() < n {
         return Printed {
-            number: NO_ROOM,
+            number: refusal::NO_ROOM,
             length: 0,
         };
     }

@@ -1,6 +1,5 @@
 -- The axes of the walk: a word's six fields, and the relations between two of them. What a line of the manual, a row, an entry of the
 -- acceptance table and an exception ask on each axis; and that they ask just that.
--- Assumes nothing.
 use Prim.Native.Nat.{ℕ, _<_}
 use mathlib.Core.Path.{_≡_, refl, _∙_, ap, ap₂, fun-ext}
 use mathlib.Core.Bool.{Bool, true, false, not, cond, _&&_, and-true, and-assoc}
@@ -8,14 +7,15 @@ use mathlib.Core.List.{List, [], _∷_}
 use mathlib.Core.Option.{none, some}
 use native.Mathlib.Omega.{arith}
 use lib.Dec.{eqb}
-use Rattle.word.specs.Word.{Field, op, rs, rt, rd, sa, fn, Fields, Fit, room}
+use Rattle.word.specs.Word.{Field, op, rs, rt, rd, sa, funct, Fields, Fit, room}
 use Rattle.classes.specs.Meaning.{six}
 use Rattle.classes.specs.Refusals.{meets}
-use Rattle.classes.proofs.Tests.{zip}
-use Rattle.classes.proofs.Walk.{Guard, passes, passing}
+use Rattle.laws.proofs.Tests.{zip}
+use Rattle.laws.proofs.Walk.{Guard, passes, passing}
 use Rattle.classes.proofs.Cover.{Box, within, in-order, both, passes-both, six-same, meet, within-meet}
 use Rattle.classes.proofs.Boxes.{bit, testsBox, within-tests}
-use Rattle.manual.specs.Page.{Column, is, box, over, under, fit, Relation, Relation-discrete, rs-is-rd, rt-is-rd, inside, ordered, related}
+use Rattle.manual.specs.Page.{Column, is, box, over, under, fit, Relation, Relation-discrete, rs-is-rd, rt-is-rd}
+use Rattle.manual.specs.Page.{inside, ordered, related}
 use Rattle.manual.specs.Page.{Claim, holds, fails, true-of, claimed, Rules, obeys, columnOf, defines, Line, has}
 
 -- ── axes ──
@@ -43,7 +43,7 @@ coord-fits f h (pair ρ) = go (related ρ f)
 
 -- funct soon, since it tells the words of a group apart
 abbrev pub axes : List Axis
-axes = at op ∷ at fn ∷ at rs ∷ at rt ∷ at rd ∷ at sa ∷ pair rs-is-rd ∷ pair rt-is-rd ∷ pair inside ∷ pair ordered ∷ []
+axes = at op ∷ at funct ∷ at rs ∷ at rt ∷ at rd ∷ at sa ∷ pair rs-is-rd ∷ pair rt-is-rd ∷ pair inside ∷ pair ordered ∷ []
 
 -- a test at each relation
 unfoldable pub four : (Relation → Bool) → Bool
@@ -58,7 +58,7 @@ pub by-parts : {A : Type 0} (ask : A → Axis → Guard) (a : A) (f : Fields) �
     passing ask axes a (coord f) ≡ (six (λ x. passes (ask a (at x)) (f x)) && four (λ ρ. passes (ask a (pair ρ)) (bit (related ρ f))))
 unfolding passing four
 by-parts ask a f =
-    rest (p (at op)) (p (at fn)) (p (at rs)) (p (at rt)) (p (at rd)) (p (at sa)) _
+    rest (p (at op)) (p (at funct)) (p (at rs)) (p (at rt)) (p (at rd)) (p (at sa)) _
     ∙ ap₂ _&&_ (in-order (λ x. p (at x))) (ap (λ (b : Bool). p (pair rs-is-rd) && (p (pair rt-is-rd) && (p (pair inside) && b))) (and-true (p (pair ordered))))
   where
     p : Axis → Bool

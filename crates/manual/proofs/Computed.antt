@@ -1,5 +1,4 @@
 -- The walk over rows, refusals, lines and exceptions at once, computed under either flag.
--- Assumes nothing.
 use Prim.Native.Nat.{ℕ}
 use mathlib.Core.Path.{_≡_, _∙_, ap, subst}
 use mathlib.Core.Bool.{Bool, _&&_}
@@ -9,14 +8,15 @@ use Rattle.word.specs.Word.{Fields, Fit}
 use Rattle.classes.specs.Row.{Row}
 use Rattle.classes.specs.Meaning.{find}
 use Rattle.classes.specs.Refusals.{Refusal, refusal}
-use Rattle.classes.proofs.Tests.{and-l, and-r}
-use Rattle.classes.proofs.Walk.{walk, left, walked, keepIn, freeIn, markIn, keep-free, mark-keep, left-sift}
+use Rattle.laws.proofs.Tests.{and-l, and-r}
+use Rattle.laws.proofs.Walk.{walk, left, walked, keepIn, freeIn, markIn, keep-free, mark-keep, left-sift}
 use Rattle.manual.specs.Page.{Line}
 use Rattle.manual.specs.Agreement.{firstLine}
 use Rattle.manual.proofs.Axes.{Axis, roomOf, coord, coord-fits, axes, askLine}
 use Rattle.manual.proofs.Verdict.{Part, verdict, together}
 use Rattle.manual.proofs.Swaps.{restores}
-use Rattle.manual.proofs.Left.{Boxed, askRow, askEntry, askPart, boxed, leftParts, headLine, headRow, headNumber, lines-left, rows-left}
+use Rattle.manual.proofs.Left.{Boxed, askRow, askEntry, askPart, boxed, leftParts, headLine, headRow, headNumber}
+use Rattle.manual.proofs.Left.{lines-left, rows-left}
 use Rattle.manual.proofs.Left.{entries-left}
 
 -- the four lists that are walked with

@@ -1,6 +1,5 @@
 -- What the walk starts with, and what is left of it for a word: the first line that has the word, the row that takes it, its refusal's
 -- number, and the exceptions that cover it.
--- Assumes nothing.
 use Prim.Native.Nat.{ℕ, zero, suc}
 use mathlib.Core.Path.{_≡_, refl, sym, _∙_, ap, ap₂, subst}
 use mathlib.Core.Bool.{Bool, true, false, cond, _&&_, _||_}
@@ -12,15 +11,16 @@ use Rattle.word.specs.Word.{Fields}
 use Rattle.classes.specs.Row.{Row}
 use Rattle.classes.specs.Meaning.{takes, find}
 use Rattle.classes.specs.Refusals.{Refusal, meets, refusal}
-use Rattle.classes.proofs.Tests.{and-l}
-use Rattle.classes.proofs.Walk.{Guard, passing, sift, sift-append}
+use Rattle.laws.proofs.Tests.{and-l}
+use Rattle.laws.proofs.Walk.{Guard, passing, sift, sift-append}
 use Rattle.classes.proofs.Cover.{Box, within, count}
 use Rattle.classes.proofs.Boxes.{bit, rowBox, boxesBy, count-row, testsBox, within-tests}
 use Rattle.classes.proofs.Find.{orElse}
 use Rattle.manual.specs.Page.{obeys, Line, has}
 use Rattle.manual.specs.Exceptions.{Words, Difference, flagged, among, covers}
 use Rattle.manual.specs.Agreement.{firstLine, anyCovers, Each}
-use Rattle.manual.proofs.Axes.{Axis, coord, axes, askBox, box-passing, askRules, rules-passing, askLine, line-passing}
+use Rattle.manual.proofs.Axes.{Axis, coord, axes, askBox, box-passing, askRules, rules-passing, askLine}
+use Rattle.manual.proofs.Axes.{line-passing}
 use Rattle.manual.proofs.Verdict.{Part, each}
 
 -- ── lines ──

@@ -1,5 +1,4 @@
 -- A word that a page defines has a line: one of the page's Format lines is for it.
--- Assumes nothing.
 use Prim.Native.Nat.{ℕ}
 use mathlib.Core.Path.{_≡_, refl, sym, _∙_, ap, ap₂, subst}
 use mathlib.Core.Bool.{Bool, true, false, not, cond, _&&_, _||_, and-true, or-assoc, or-not-self}
@@ -8,8 +7,10 @@ use mathlib.Core.Option.{Option, some}
 use lib.Dec.{T}
 use lib.Text.{eqt}
 use Rattle.word.specs.Word.{Field, sameField, Fields}
-use Rattle.classes.specs.Refusals.{Test, _one-of_, _none-of_, elem, holds, meets, only}
-use Rattle.classes.proofs.Tests.{and-l, and-r, same-field}
+use Rattle.laws.specs.Lists.{elem}
+use Rattle.classes.specs.Refusals.{Test, _one-of_, _none-of_, holds, meets, only}
+use Rattle.laws.proofs.Tests.{and-l, and-r}
+use Rattle.classes.proofs.Tests.{same-field}
 use Rattle.manual.specs.Page.{Format, Page, defines, Line, has}
 use Rattle.manual.specs.Pages.{pages}
 use Rattle.manual.specs.Aliases.{Alias, aliases, aliasLines, formatLine, linesOf}

@@ -1,6 +1,5 @@
 -- What specs/Patching.antt states, proved: the encoder's word is that of the row which is picked (crate `inverse`), and the walk has tested
 -- which row that is and which fields it has.
--- Assumes nothing.
 use Prim.Native.Nat.{ℕ, _<_}
 use mathlib.Core.Path.{_≡_, refl, sym, _∙_, ap, subst}
 use mathlib.Core.Bool.{Bool, true, false}
@@ -16,13 +15,15 @@ use Rattle.reading.specs.Kind.{from}
 use Rattle.classes.specs.Row.{Row}
 use Rattle.classes.specs.Meaning.{six, takes, find, outs}
 use Rattle.classes.specs.Table.{table}
-use Rattle.classes.specs.Refusals.{elem, holds, meets, refusals}
+use Rattle.laws.specs.Lists.{elem}
+use Rattle.classes.specs.Refusals.{holds, meets, refusals}
 use Rattle.classes.specs.Decoded.{decodedOf}
 use Rattle.classes.proofs.Find.{In, find-in}
 use Rattle.inverse.specs.Encoded.{Encodes}
-use Rattle.inverse.proofs.Rows.{afterNops, lift}
+use Rattle.inverse.specs.Private.Candidate.{afterNops, pick}
+use Rattle.inverse.proofs.Rows.{lift}
 use Rattle.inverse.proofs.Twins.{valueIn, own-suits, no-nops}
-use Rattle.inverse.proofs.Tables.{pick, pick-suited}
+use Rattle.inverse.proofs.Tables.{pick-suited}
 use Rattle.inverse.proofs.Smallest.{answerBy, row-of}
 use Rattle.inverse.proofs.Restored.{Restored, kept-word}
 use Rattle.inverse.proofs.Restored as encoder
@@ -32,9 +33,11 @@ use Rattle.inverse.proofs.Proved.{good-of}
 use Rattle.manual.specs.Page.{fit, related, true-of, claimed, obeys, Line, defines, has}
 use Rattle.manual.specs.Pages.{pages}
 use Rattle.manual.specs.Aliases.{aliases, aliasLines, linesOf}
-use Rattle.manual.specs.Exceptions.{flagged, among, covers, refusedWords, otherReadings, reservedWords, differences}
+use Rattle.manual.specs.Exceptions.{flagged, among, covers, refusedWords, otherReadings, reservedWords}
+use Rattle.manual.specs.Exceptions.{differences}
 use Rattle.manual.specs.Agreement.{book, firstLine, lineFor, Agree, anyCovers, covered, Each}
-use Rattle.manual.specs.Patching.{inRange, Swap, swaps, valueOf, changed, ofLine, swapIn, swapBy, swapFor, Patched, ShownSwap, Patching}
+use Rattle.manual.specs.Patching.{inRange, Swap, swaps, valueOf, changed, ofLine, swapIn, swapBy, swapFor}
+use Rattle.manual.specs.Patching.{Patched, ShownSwap, Patching}
 use Rattle.manual.proofs.Swaps.{Kept, Moved, By, restoring-by}
 use Rattle.manual.proofs.Proved.{manual, insn-is, found, line-of, restored}
 

@@ -1,5 +1,4 @@
 -- What specs/Agreement.antt states, proved.
--- Assumes nothing.
 use Prim.Native.Nat.{ℕ, _+_, _^_, _≤_}
 use mathlib.Core.Path.{_≡_, refl, sym, _∙_, ap, ap₂, subst}
 use mathlib.Core.Bool.{Bool, true, false, not, cond, _&&_, _||_}
@@ -18,9 +17,10 @@ use Rattle.reading.specs.declared.Decoded.{Decoded}
 use Rattle.classes.specs.Row.{Code, reg, freg, cop0, num, size, s16, u16, mem, br, jmp, Row}
 use Rattle.classes.specs.Meaning.{out, outs, find, meaning}
 use Rattle.classes.specs.Table.{table}
-use Rattle.classes.specs.Refusals.{elem, meets, refusal, refusals}
+use Rattle.laws.specs.Lists.{elem}
+use Rattle.classes.specs.Refusals.{meets, refusal, refusals}
 use Rattle.classes.specs.Decoded.{readingBy, decodedBy, decodedOf}
-use Rattle.classes.proofs.Tests.{and-l, and-r, at-true, distinct}
+use Rattle.laws.proofs.Tests.{and-l, and-r, at-true, distinct}
 use Rattle.classes.proofs.Accepts.{none-found, acceptance, accepted}
 use Rattle.classes.proofs.Find.{every-found, each-reading}
 use Rattle.classes.proofs.Operands as operands
@@ -29,11 +29,13 @@ use Rattle.manual.specs.Page.{defines, Line, has}
 use Rattle.manual.specs.Pages.{pages}
 use Rattle.manual.specs.Aliases.{linesOf}
 use Rattle.manual.specs.Exceptions.{Difference, covers, refusedWords, otherReadings, reservedWords, differences}
-use Rattle.manual.specs.Agreement.{book, firstLine, lineFor, used, past, anyPast, AgreeBy, Agree, covering, covered, Answered, target-past-pc}
+use Rattle.manual.specs.Agreement.{book, firstLine, lineFor, used, past, anyPast, AgreeBy, Agree, covering}
+use Rattle.manual.specs.Agreement.{covered, Answered, target-past-pc}
 use Rattle.manual.specs.Agreement.{PastAs, Each, Manual}
 use Rattle.manual.specs.Patching.{swaps}
 use Rattle.manual.proofs.Lines.{lined}
-use Rattle.manual.proofs.Verdict.{used-meaning, Part, matches-named, matches-reads, matches-past, clashes, clashes-reads, readBy, refusedBy}
+use Rattle.manual.proofs.Verdict.{used-meaning, Part, matches-named, matches-reads, matches-past, clashes}
+use Rattle.manual.proofs.Verdict.{clashes-reads, readBy, refusedBy}
 use Rattle.manual.proofs.Verdict.{Meets, read-answered, refused-answered, each, verdict, shownBy, together}
 use Rattle.manual.proofs.Left.{partsOf, leftParts, present, parts-left, parts-each}
 use Rattle.manual.proofs.Swaps.{restoring, restores}

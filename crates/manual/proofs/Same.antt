@@ -1,5 +1,4 @@
 -- Tests that two things are the same, and what such a test shows.
--- Assumes nothing.
 use Prim.Native.Nat.{ℕ}
 use mathlib.Core.Path.{_≡_, refl, sym, ap₂, subst}
 use mathlib.Core.Bool.{Bool, true, false, _&&_}
@@ -7,7 +6,8 @@ use mathlib.Core.List.{List, [], _∷_}
 use lib.Dec.{T, eqb, eqb→eq}
 use borrow.Author.Tests.{eq-eqb}
 use Rattle.word.specs.Word.{Field, sameField}
-use Rattle.classes.proofs.Tests.{and-l, and-r, and-i, same-field}
+use Rattle.laws.proofs.Tests.{and-l, and-r, and-i}
+use Rattle.classes.proofs.Tests.{same-field}
 
 -- lists whose members are the same, one by one
 module _ {A : Type 0} (same : A → A → Bool) where

@@ -1,5 +1,4 @@
 -- What specs/Tight.antt states, proved: a test of each exception's example, computed; the rest follows from `manual`.
--- Assumes nothing.
 use Prim.Native.Nat.{_+_}
 use mathlib.Core.Path.{_≡_, refl}
 use mathlib.Core.Bool.{Bool, true, false, cond, _&&_, _||_}
@@ -11,11 +10,13 @@ use Rattle.reading.specs.Kind.{from}
 use Rattle.word.specs.Numbers.{imm, signed, branchTo}
 use Rattle.classes.specs.Meaning.{match, six, nopLike, takes, find, out, outs, reading, meaning}
 use Rattle.classes.specs.Table.{common, byWidth, table}
-use Rattle.classes.specs.Refusals.{elem, holds, meets}
+use Rattle.laws.specs.Lists.{elem}
+use Rattle.classes.specs.Refusals.{holds, meets}
 use Rattle.classes.specs.Decoded.{decodedBy, decodedOf}
-use Rattle.classes.proofs.Tests.{and-l, and-r}
+use Rattle.laws.proofs.Tests.{and-l, and-r}
 use Rattle.manual.specs.Page.{related, true-of, claimed, obeys}
-use Rattle.manual.specs.Exceptions.{Difference, flagged, among, covers, refusedWords, otherReadings, reservedWords, differences}
+use Rattle.manual.specs.Exceptions.{Difference, flagged, among, covers, refusedWords, otherReadings}
+use Rattle.manual.specs.Exceptions.{reservedWords, differences}
 use Rattle.manual.specs.Agreement.{anyCovers, covering, anyPast, Each}
 use Rattle.manual.specs.Tight.{Shown, ShownPast, Tight}
 use Rattle.manual.proofs.Proved.{manual}

@@ -1,6 +1,5 @@
 -- Operands of the manual and of a row side by side: what a Format line's operand is made of, in the row's words, and that the two then
 -- mean the same for every word.
--- Assumes nothing.
 use Prim.Native.Nat.{ℕ, _+_, _*_, _%_, _^_}
 use mathlib.Core.Path.{_≡_, refl, sym, _∙_, ap, ap₂, subst}
 use mathlib.Core.Bool.{Bool, true, false, not, cond, _&&_, _||_}
@@ -9,16 +8,21 @@ use mathlib.Core.Option.{Option, none, some, Option·none-ne-some, Option·some-
 use native.Mathlib.Omega.{arith}
 use lib.Dec.{T, eqb, eqb→eq}
 use lib.IntN.{pos}
-use Rattle.word.specs.Word.{Field, sameField, Field-discrete, op, rs, rt, rd, sa, fn, Fields, room}
+use Rattle.word.specs.Word.{Field, sameField, Field-discrete, op, rs, rt, rd, sa, funct, Fields, room}
 use Rattle.word.specs.Numbers.{imm, index, signed, branchTo, jumpTo, sizeOf}
 use Rattle.reading.specs.declared.Op.{Op}
 use Rattle.reading.specs.declared.Op.the-variants.{Reg, Imm}
-use Rattle.classes.specs.Row.{Code, Code-discrete, reg, freg, cop0, num, size, s16, u16, mem, br, jmp, Form, end, _▸_, posSize, link}
+use Rattle.classes.specs.Row.{Code, Code-discrete, reg, freg, cop0, num, size, s16, u16, mem, br, jmp, Form, end, _▸_}
+use Rattle.classes.specs.Row.{posSize, link}
 use Rattle.classes.specs.Meaning.{out, outs}
-use Rattle.classes.specs.Refusals.{Test, _one-of_, _none-of_, elem, holds, meets}
-use Rattle.classes.proofs.Tests.{and-l, and-r, decided, same-field}
-use Rattle.manual.specs.Page.{Name, Base, Offset, InstrIndex, sameName, Column, is, box, over, under, part, Page, columnOf, value}
-use Rattle.manual.specs.Page.{Arg, gpr, fpr, fcr, hwr, cp0, cp2, unsigned, signed16, plus, span, offset-base, index-base, pc-relative}
+use Rattle.laws.specs.Lists.{elem}
+use Rattle.classes.specs.Refusals.{Test, _one-of_, _none-of_, holds, meets}
+use Rattle.laws.proofs.Tests.{and-l, and-r, decided}
+use Rattle.classes.proofs.Tests.{same-field}
+use Rattle.manual.specs.Page.{Name, Base, Offset, InstrIndex, sameName, Column, is, box, over, under, part, Page}
+use Rattle.manual.specs.Page.{columnOf, value}
+use Rattle.manual.specs.Page.{Arg, gpr, fpr, fcr, hwr, cp0, cp2, unsigned, signed16, plus, span, offset-base}
+use Rattle.manual.specs.Page.{index-base, pc-relative}
 use Rattle.manual.specs.Page.{in-region, pcBits, Meant, GPR, FPR, CP0, number, memory, address, meantBy, meantIn}
 use Rattle.manual.specs.Agreement.{shows, held}
 use Rattle.manual.proofs.Same.{sameList, same-list, sameFields, same-fields}
@@ -39,7 +43,7 @@ partly n (over m k v) = sameName n m
 partly n (under v k m) = sameName n m
 
 abbrev pub columns : List Field
-columns = op ∷ rs ∷ rt ∷ rd ∷ sa ∷ fn ∷ []
+columns = op ∷ rs ∷ rt ∷ rd ∷ sa ∷ funct ∷ []
 
 unfoldable pub fullIn : Page → Name → List Field → List Field
 fullIn p n [] = []
@@ -98,18 +102,18 @@ unfolding side
 value-at p f n x e = omega (arith, value-side p f n x [] e)
 
 abbrev low16 : List Field
-low16 = rd ∷ sa ∷ fn ∷ []
+low16 = rd ∷ sa ∷ funct ∷ []
 
 abbrev low26 : List Field
-low26 = rs ∷ rt ∷ rd ∷ sa ∷ fn ∷ []
+low26 = rs ∷ rt ∷ rd ∷ sa ∷ funct ∷ []
 
 value-low16 : (p : Page) (f : Fields) (n : Name) → spots p n ≡ low16 → value p f n ≡ imm f
 unfolding side imm
-value-low16 p f n e = omega (arith, value-side p f n rd (sa ∷ fn ∷ []) e)
+value-low16 p f n e = omega (arith, value-side p f n rd (sa ∷ funct ∷ []) e)
 
 value-low26 : (p : Page) (f : Fields) (n : Name) → spots p n ≡ low26 → value p f n ≡ index f
 unfolding side index
-value-low26 p f n e = omega (arith, value-side p f n rs (rt ∷ rd ∷ sa ∷ fn ∷ []) e)
+value-low26 p f n e = omega (arith, value-side p f n rs (rt ∷ rd ∷ sa ∷ funct ∷ []) e)
 
 -- ── operands ──
 

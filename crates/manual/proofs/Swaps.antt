@@ -1,6 +1,5 @@
 -- What of a word comes back when its reading is encoded: the test of a line of the manual and the row of its words, and what a passed test
 -- says of each word that both have.
--- Assumes nothing.
 use Prim.Native.Nat.{ℕ}
 use mathlib.Core.Path.{_≡_, refl, sym, _∙_, subst, fun-ext}
 use mathlib.Core.Bool.{Bool, true, false, not, cond, _&&_, _||_}
@@ -15,16 +14,18 @@ use Rattle.reading.specs.Kind as kind
 use Rattle.classes.specs.Row.{Form, Row, patOf}
 use Rattle.classes.specs.Meaning.{match, six, takes, out, outs}
 use Rattle.classes.specs.Table.{rt-imm, rt-uimm}
-use Rattle.classes.proofs.Tests.{and-l, and-r, and-i, or-e, implies, implied, at-true, at-false, six-at, sameForm, same-form, allBelow, below}
-use Rattle.classes.proofs.Walk.{passes}
+use Rattle.laws.proofs.Tests.{and-l, and-r, and-i, or-e, implies, implied, at-true, at-false, allBelow, below}
+use Rattle.classes.specs.Private.Same.{sameForm}
+use Rattle.classes.proofs.Tests.{six-at, same-form}
+use Rattle.laws.proofs.Walk.{passes}
 use Rattle.classes.proofs.Uses.{isRead}
-use Rattle.inverse.proofs.Good.{base, inSigned, holds, suits}
+use Rattle.inverse.specs.Private.Candidate.{base, inSigned, holds, suits, first}
 use Rattle.inverse.proofs.Rows.{takes-at, lift}
 use Rattle.inverse.proofs.Twins.{valueIn, own-holds}
-use Rattle.inverse.proofs.Tables.{first}
 use Rattle.inverse.proofs.Later.{later, unsignedLi, Alone}
 use Rattle.manual.specs.Page.{Line, has}
-use Rattle.manual.specs.Patching.{Range, all, below-0x8000, inRange, Setting, Swap, swaps, valueOf, setOr, changed, ofLine, swapIn}
+use Rattle.manual.specs.Patching.{Range, all, below-0x8000, inRange, Setting, Swap, swaps, valueOf, setOr}
+use Rattle.manual.specs.Patching.{changed, ofLine, swapIn}
 use Rattle.manual.proofs.Axes.{at, by-parts, askLine, line-passing}
 use Rattle.manual.proofs.Verdict.{Part}
 

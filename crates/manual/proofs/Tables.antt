@@ -1,5 +1,4 @@
 -- The tables pass the test of the walk.
--- Assumes nothing.
 use mathlib.Core.Bool.{Bool, true, false}
 use lib.Dec.{T}
 use Rattle.word.specs.Word.{word}
@@ -7,13 +6,13 @@ use Rattle.reading.specs.Kind.{from}
 use Rattle.reading.specs.Names.{mnemonics, nameOf}
 use Rattle.classes.specs.Meaning.{match, six}
 use Rattle.classes.specs.Table.{common, byWidth, table}
-use Rattle.classes.specs.Refusals.{elem, refusals}
-use Rattle.classes.proofs.Tests.{allBelow}
+use Rattle.laws.specs.Lists.{elem}
+use Rattle.classes.specs.Refusals.{refusals}
+use Rattle.laws.proofs.Tests.{allBelow}
 use Rattle.classes.proofs.Uses.{isRead}
-use Rattle.classes.proofs.Walk.{spread, walk, sift, freeIn, markIn}
+use Rattle.laws.proofs.Walk.{spread, walk, sift, freeIn, markIn}
 use Rattle.classes.proofs.Boxes.{guardOf, boxesBy, testBox, testsBox}
-use Rattle.inverse.proofs.Good.{least}
-use Rattle.inverse.proofs.Tables.{first}
+use Rattle.inverse.specs.Private.Candidate.{least, first}
 use Rattle.inverse.proofs.Later.{later}
 use Rattle.manual.specs.Page.{fit, names, named, without, oneAbove, implied, tied, settled, told, whole}
 use Rattle.manual.specs.Pages.{pages}
@@ -24,7 +23,8 @@ use Rattle.manual.specs.Patching.{swaps, valueOf, ofLine}
 use Rattle.manual.proofs.Axes.{askClaim, askClaims, askColumn}
 use Rattle.manual.proofs.Same.{sameList}
 use Rattle.manual.proofs.Slots.{fullIn, partlyIn, spots, slotOf, formSlots, lineSlots, sameOperands}
-use Rattle.manual.proofs.Verdict.{namedAs, matches, argSort, codeSort, formSorts, clashes, sorted, readAs, refusedAs, each, verdict}
+use Rattle.manual.proofs.Verdict.{namedAs, matches, argSort, codeSort, formSorts, clashes, sorted, readAs}
+use Rattle.manual.proofs.Verdict.{refusedAs, each, verdict}
 use Rattle.manual.proofs.Verdict.{together}
 use Rattle.manual.proofs.Left.{tag, boxed, partsIn, partsOf}
 use Rattle.manual.proofs.Swaps.{fixedAt, fitsAt, fits, suited, swapping, unmatched, outside, restoring, restores}

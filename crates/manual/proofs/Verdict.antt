@@ -1,6 +1,5 @@
 -- What the walk tests at its end: the line of the manual, the row, the number of a refusal and the exceptions that are left for a word.
 -- And what a passed test says of the word.
--- Assumes nothing.
 use Prim.Native.Nat.{ℕ, _%_, _^_, _<_, _≤_}
 use Prim.Native.String.{String}
 use mathlib.Core.Path.{_≡_, refl, sym, _∙_, ap, ap₂, subst}
@@ -16,18 +15,25 @@ use Rattle.word.specs.Word.{Fields}
 use Rattle.reading.specs.declared.Op.{Op}
 use Rattle.reading.specs.declared.Op.the-variants.{Reg, FReg, Imm, Mem, Addr, Cop0}
 use Rattle.reading.specs.Names.{nameOf}
-use Rattle.classes.specs.Row.{Code, reg, freg, cop0, num, size, s16, u16, mem, br, jmp, Form, end, _▸_, posSize, link, Row}
+use Rattle.classes.specs.Row.{Code, reg, freg, cop0, num, size, s16, u16, mem, br, jmp, Form, end, _▸_, posSize, link}
+use Rattle.classes.specs.Row.{Row}
 use Rattle.classes.specs.Meaning.{out, outs, targetIn, reading, meaning}
-use Rattle.classes.specs.Refusals.{elem, meets}
-use Rattle.classes.specs.Decoded.{acceptedAs}
-use Rattle.classes.proofs.Tests.{and-l, and-r, or-e, at-true, sameForm, same-form}
+use Rattle.laws.specs.Lists.{elem}
+use Rattle.classes.specs.Refusals.{meets}
+use Rattle.reading.specs.Reading.{acceptedAs}
+use Rattle.laws.proofs.Tests.{and-l, and-r, or-e, at-true}
+use Rattle.classes.specs.Private.Same.{sameForm}
+use Rattle.classes.proofs.Tests.{same-form}
 use Rattle.classes.proofs.Operands.{known, known-most, in-use}
-use Rattle.manual.specs.Page.{Arg, gpr, fpr, fcr, hwr, cp0, cp2, unsigned, signed16, plus, span, offset-base, index-base, pc-relative}
+use Rattle.manual.specs.Page.{Arg, gpr, fpr, fcr, hwr, cp0, cp2, unsigned, signed16, plus, span, offset-base}
+use Rattle.manual.specs.Page.{index-base, pc-relative}
 use Rattle.manual.specs.Page.{in-region}
-use Rattle.manual.specs.Page.{Name, Meant, GPR, FPR, FCR, HWR, CP0, CP2, number, memory, indexed, address, meantBy, meantIn, value, Rules}
+use Rattle.manual.specs.Page.{Name, Meant, GPR, FPR, FCR, HWR, CP0, CP2, number, memory, indexed, address}
+use Rattle.manual.specs.Page.{meantBy, meantIn, value, Rules}
 use Rattle.manual.specs.Page.{Line, pcBits, meant, without, whole}
 use Rattle.manual.specs.Exceptions.{Sort, Answer, refused, reads, drops, Difference}
-use Rattle.manual.specs.Agreement.{lineFor, used, shows, targetAmong, Reads, held, heldTarget, past, anyPast, Names, OneOf, Dropped, Answered}
+use Rattle.manual.specs.Agreement.{lineFor, used, shows, targetAmong, Reads, held, heldTarget, past, anyPast}
+use Rattle.manual.specs.Agreement.{Names, OneOf, Dropped, Answered}
 use Rattle.manual.proofs.Same.{sameNumbers, numbers-same}
 use Rattle.manual.proofs.Slots.{sameOperands, operands-meant}
 

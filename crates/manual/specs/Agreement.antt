@@ -1,6 +1,5 @@
--- DEMAND 2 AGAINST THE MANUALS: the source and the manuals agree on a word, at any address and under either width flag, exactly if no
--- exception covers it. The proofs are in proofs/Proved.antt.
--- Assumes nothing.
+-- DEMAND 2 AGAINST THE MANUALS: the source and the manuals agree on a word, at any address and under either width flag,
+-- exactly if no exception covers it. The proofs are in proofs/Proved.antt.
 use Prim.Native.Nat.{ℕ, _+_, _%_, _^_, _≤_}
 use mathlib.Core.Path.{_≡_}
 use mathlib.Core.Bool.{Bool, true, false, cond, _||_}
@@ -19,7 +18,7 @@ use Rattle.reading.specs.declared.Insn.{Insn}
 use Rattle.reading.specs.declared.Decoded.{Decoded}
 use Rattle.reading.specs.Names.{nameOf}
 use Rattle.classes.specs.Meaning.{outs}
-use Rattle.classes.specs.Refusals.{elem}
+use Rattle.laws.specs.Lists.{elem}
 use Rattle.classes.specs.Decoded.{decodedOf}
 use Rattle.manual.specs.Page.{Name, Arg, Isa, MIPS32, MIPS64, Page, defines, Line, has, whole, without, pcBits}
 use Rattle.manual.specs.Page.{Meant, GPR, FPR, FCR, HWR, CP0, CP2, number, memory, indexed, address}
@@ -85,7 +84,8 @@ targetAmong (address a ∷ ms) = target.At a
 
 -- ── agreement ──
 
--- the reading has the line's name, its operands in the Format line's order and its target, and nothing of the page is left out
+-- the reading has the line's name, its operands in the Format line's order and its target, and nothing of the page is
+-- left out
 pub record Reads (ℓ : Line) (wide : Bool) (va : ℕ) (f : Fields) (i : Insn) : Type 0 where
   pub name : nameOf (i .mnemonic) ≡ ℓ .name
   pub operands : map shows (used i) ≡ meant ℓ wide va f

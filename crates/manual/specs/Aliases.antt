@@ -1,13 +1,13 @@
--- The source's aliases: other names for words of a page, with a register that is zero left out. The manual has none of them; `b`,
--- `bal`, `nop` and `ssnop` are not here, since they have pages.
--- Assumes nothing.
+-- The source's aliases: other names for words of a page, with a register that is zero left out. The manual has none of
+-- them; `b`, `bal`, `nop` and `ssnop` are not here, since they have pages.
 use Prim.Native.String.{String}
 use mathlib.Core.Bool.{cond}
 use mathlib.Core.List.{List, [], _∷_, _++_, map}
 use lib.Text.{eqt}
 use Rattle.word.specs.Word.{Field, rs, rt}
 use Rattle.classes.specs.Refusals.{_one-of_, only}
-use Rattle.manual.specs.Page.{Rs, Rt, Rd, Immediate, Arg, gpr, unsigned, signed16, pc-relative, Format, Page, Line}
+use Rattle.manual.specs.Page.{Rs, Rt, Rd, Immediate, Arg, gpr, unsigned, signed16, pc-relative, Format, Page}
+use Rattle.manual.specs.Page.{Line}
 
 -- the name, the page, the field that is zero, the operands that are left
 pub record Alias : Type 0 where
@@ -40,7 +40,9 @@ aliases =
 unfoldable pub aliasLines : List Alias → Page → List Line
 aliasLines [] p = []
 aliasLines (a ∷ us) p =
-    cond (eqt (a .of-page) (p .name)) (record { page = p; name = a .alias; when = a .zero one-of only 0 ∷ []; args = a .left } ∷ []) []
+    cond (eqt (a .of-page) (p .name))
+    (record { page = p; name = a .alias; when = a .zero one-of only 0 ∷ []; args = a .left } ∷ [])
+    []
     ++ aliasLines us p
 
 abbrev pub formatLine : Page → Format → Line

@@ -1,10 +1,11 @@
 -- The Format lines and the Restrictions of the manual's pages, under the names that the table of pages calls them by.
--- Assumes nothing.
 use mathlib.Core.List.{List, [], _∷_}
-use Rattle.word.specs.Word.{rs, rt, rd, sa, fn}
+use Rattle.word.specs.Word.{rs, rt, rd, sa, funct}
 use Rattle.classes.specs.Refusals.{Test, _one-of_, _none-of_, _to_, only}
-use Rattle.manual.specs.Page.{Rs, Rt, Rd, Sa, Immediate, Fs, Ft, Fd, Fr, Hint, CacheOp, Cc, Code, Stype, Sel, Impl, Cofun, Msbd, Msb, Lsb}
-use Rattle.manual.specs.Page.{Arg, gpr, fpr, fcr, hwr, cp0, cp2, unsigned, signed16, plus, span, offset-base, index-base, pc-relative}
+use Rattle.manual.specs.Page.{Rs, Rt, Rd, Sa, Immediate, Fs, Ft, Fd, Fr, Hint, CacheOp, Cc, Code, Stype, Sel}
+use Rattle.manual.specs.Page.{Impl, Cofun, Msbd, Msb, Lsb}
+use Rattle.manual.specs.Page.{Arg, gpr, fpr, fcr, hwr, cp0, cp2, unsigned, signed16, plus, span, offset-base}
+use Rattle.manual.specs.Page.{index-base, pc-relative}
 use Rattle.manual.specs.Page.{in-region}
 use Rattle.manual.specs.Page.{Format, rs-is-rd, rt-is-rd, inside, ordered, Claim, holds, fails, Rules}
 
@@ -169,13 +170,14 @@ abbrev pub cc-fs-ft : List Format
 cc-fs-ft = two (sa one-of only 0 ∷ []) (fpr Fs ∷ fpr Ft ∷ []) (unsigned Cc ∷ fpr Fs ∷ fpr Ft ∷ [])
 
 abbrev pub rt-rd-sel : List Format
-rt-rd-sel = two (fn one-of only 0 ∷ []) (gpr Rt ∷ cp0 Rd ∷ []) (gpr Rt ∷ cp0 Rd ∷ unsigned Sel ∷ [])
+rt-rd-sel = two (funct one-of only 0 ∷ []) (gpr Rt ∷ cp0 Rd ∷ []) (gpr Rt ∷ cp0 Rd ∷ unsigned Sel ∷ [])
 
 abbrev pub stype-alone : List Format
 stype-alone = two (sa one-of only 0 ∷ []) [] (unsigned Stype ∷ [])
 
 abbrev pub link-rs : List Format
-link-rs = line-for (rd one-of only 31 ∷ []) (gpr Rs ∷ []) ∷ line-for (rd none-of only 31 ∷ []) (gpr Rd ∷ gpr Rs ∷ []) ∷ []
+link-rs = line-for (rd one-of only 31 ∷ []) (gpr Rs ∷ []) ∷ line-for (rd none-of only 31 ∷ []) (gpr Rd ∷ gpr Rs ∷ []) ∷
+    []
 
 -- the page has a code that its Format line does not: zero if nothing is to be left out
 abbrev pub code20 : List Format
@@ -241,6 +243,7 @@ even-cc-in-rt = rules (rt one-of (0 ∷ 1 ∷ 8 ∷ 9 ∷ 16 ∷ 17 ∷ 24 ∷ 2
 abbrev pub even-cc-in-sa : Rules
 even-cc-in-sa = rules (sa one-of (0 ∷ 8 ∷ 16 ∷ 24 ∷ []) ∷ []) []
 
--- rd is one of the hardware registers: CPUNum, SYNCI_Step, CC, CCRes, and from 29 on those of the system and the implementation
+-- rd is one of the hardware registers: CPUNum, SYNCI_Step, CC, CCRes, and from 29 on those of the system and the
+-- implementation
 abbrev pub hardware-register : Rules
 hardware-register = rules (rd none-of (4 to 28) ∷ []) []

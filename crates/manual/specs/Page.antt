@@ -1,12 +1,12 @@
--- A page of the manual: its name, the drawing of its encoding, its Format lines and its Restrictions. What a line says of a word.
--- Assumes nothing.
+-- A page of the manual: its name, the drawing of its encoding, its Format lines and its Restrictions. What a line says
+-- of a word.
 use Prim.Native.Nat.{ℕ, _+_, _*_, _/_, _%_, _^_}
 use Prim.Native.String.{String}
 use mathlib.Core.Bool.{Bool, true, false, not, cond, _&&_, _||_}
 use mathlib.Core.List.{List, [], _∷_, map}
 use lib.Dec.{eqb, leb}
 use lib.IntN.{ℤ, pos}
-use Rattle.word.specs.Word.{Field, sameField, op, rs, rt, rd, sa, fn, Fields, room}
+use Rattle.word.specs.Word.{Field, sameField, op, rs, rt, rd, sa, funct, Fields, room}
 use Rattle.word.specs.Numbers.{signed, branchTo, jumpTo, sizeOf}
 use Rattle.classes.specs.Meaning.{six}
 use Rattle.classes.specs.Refusals.{Test, _one-of_, _none-of_, meets}
@@ -15,7 +15,8 @@ use Rattle.classes.specs.Refusals.{Test, _one-of_, _none-of_, meets}
 
 -- the names that pages give to the fields of a word
 pub data Name : Type 0 where
-  Rs Rt Rd Sa Base Offset Immediate InstrIndex Fs Ft Fd Fr Index Hint CacheOp Cc Code Stype Sel Impl Cofun Msbd Msb Lsb : Name
+  Rs Rt Rd Sa Base Offset Immediate InstrIndex Fs Ft Fd Fr Index Hint CacheOp Cc Code Stype Sel Impl Cofun Msbd : Name
+  Msb Lsb : Name
   deriving Discrete as Name-discrete
 
 abbrev pub sameName : Name → Name → Bool
@@ -46,7 +47,7 @@ part n (under v k m) r a s = cond (sameName n m) (s * 2 ^ k + a % 2 ^ k) s
 -- an operand of a Format line
 pub data Arg : Type 0 where
   gpr fpr : Name → Arg  -- a general register, a floating-point register
-  fcr hwr cp0 cp2 : Name → Arg  -- a floating-point control register, a hardware register, a register of coprocessor 0 or 2
+  fcr hwr cp0 cp2 : Name → Arg  -- a control register of COP1, a hardware register, a register of coprocessor 0 or 2
   unsigned signed16 : Name → Arg  -- a number, zero-extended or sign-extended
   plus : ℕ → Name → Arg  -- the field and this much more
   span : ℕ → Name → Name → Arg  -- the size of a bit field, from its last bit and this much more, and its first
@@ -109,7 +110,7 @@ pub record Page : Type 0 where
   pub prt : Column
   pub prd : Column
   pub psa : Column
-  pub pfn : Column
+  pub pfunct : Column
   pub formats : List Format
   pub limit : Rules
 
@@ -119,7 +120,7 @@ columnOf p rs = p .prs
 columnOf p rt = p .prt
 columnOf p rd = p .prd
 columnOf p sa = p .psa
-columnOf p fn = p .pfn
+columnOf p funct = p .pfunct
 
 -- does the page define the word? Its drawing and its Restrictions allow it
 unfoldable pub defines : Page → Fields → Bool
@@ -138,7 +139,7 @@ has ℓ f = defines (ℓ .page) f && meets (ℓ .when) f
 
 -- the value of a field: its columns side by side
 unfoldable pub value : Page → Fields → Name → ℕ
-value p f n = add fn (add sa (add rd (add rt (add rs (add op 0)))))
+value p f n = add funct (add sa (add rd (add rt (add rs (add op 0)))))
   where
     add : Field → ℕ → ℕ
     add x s = part n (columnOf p x) (room x) (f x) s

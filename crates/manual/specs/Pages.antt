@@ -1,19 +1,26 @@
--- THE MANUALS' PAGES: MIPS32 and MIPS64 Architecture for Programmers, Volume II, release 2. A line a page, in the order of the
--- opcode tables; a page that draws several encodings has a line for each. Where two lines have a word, the first one is meant.
--- Assumes nothing.
+-- THE MANUALS' PAGES: MIPS32 and MIPS64 Architecture for Programmers, Volume II, release 2. A line a page, in the order
+-- of the opcode tables; a page that draws several encodings has a line for each. Where two lines have a word, the first
+-- one is meant.
 use Prim.Native.Nat.{ℕ}
 use Prim.Native.String.{String}
 use mathlib.Core.List.{List, [], _∷_}
-use Rattle.manual.specs.Page.{Name, Rs, Rt, Rd, Sa, Base, Offset, Immediate, InstrIndex, Fs, Ft, Fd, Fr, Index, Hint, CacheOp, Cc, Code, Stype}
+use Rattle.manual.specs.Page.{Name, Rs, Rt, Rd, Sa, Base, Offset, Immediate, InstrIndex, Fs, Ft, Fd, Fr, Index}
+use Rattle.manual.specs.Page.{Hint, CacheOp, Cc, Code, Stype}
 use Rattle.manual.specs.Page.{Sel, Impl, Cofun, Msbd, Msb, Lsb}
 use Rattle.manual.specs.Page.{Column, is, box, over, under, Format, Rules, Isa, MIPS32, MIPS64, Page}
-use Rattle.manual.specs.Formats.{no-operands, one-rs, rt-alone, one-rd, rd-rs, rd-rt, rs-rt, rd-rs-rt, rd-rt-rs, rd-rt-sa, rd-rs-cc}
-use Rattle.manual.specs.Formats.{branch, rs-offset, rs-rt-offset, target, rs-immediate, rt-zero-immediate, rt-rs-immediate}
+use Rattle.manual.specs.Formats.{no-operands, one-rs, rt-alone, one-rd, rd-rs, rd-rt, rs-rt, rd-rs-rt, rd-rt-rs}
+use Rattle.manual.specs.Formats.{rd-rt-sa, rd-rs-cc}
+use Rattle.manual.specs.Formats.{branch, rs-offset, rs-rt-offset, target, rs-immediate, rt-zero-immediate}
+use Rattle.manual.specs.Formats.{rt-rs-immediate}
 use Rattle.manual.specs.Formats.{rt-rs-zero-immediate}
-use Rattle.manual.specs.Formats.{offset-of-base, rt-offset-base, ft-offset-base, cp2-offset-base, hint-offset-base, op-offset-base}
-use Rattle.manual.specs.Formats.{rt-fs, rt-control, rt-hardware, fd-fs, fd-fs-ft, fd-fs-cc, fd-fs-rt, fd-fr-fs-ft, fd-fs-ft-rs, fd-index-base}
-use Rattle.manual.specs.Formats.{fs-index-base, hint-index-base, rt-impl, cofun-alone, code-alone, ext-pos-size, dextm-pos-size, dextu-pos-size}
-use Rattle.manual.specs.Formats.{ins-pos-size, dinsm-pos-size, dinsu-pos-size, cc-offset, cc-fs-ft, rt-rd-sel, stype-alone, link-rs}
+use Rattle.manual.specs.Formats.{offset-of-base, rt-offset-base, ft-offset-base, cp2-offset-base}
+use Rattle.manual.specs.Formats.{hint-offset-base, op-offset-base}
+use Rattle.manual.specs.Formats.{rt-fs, rt-control, rt-hardware, fd-fs, fd-fs-ft, fd-fs-cc, fd-fs-rt, fd-fr-fs-ft}
+use Rattle.manual.specs.Formats.{fd-fs-ft-rs, fd-index-base}
+use Rattle.manual.specs.Formats.{fs-index-base, hint-index-base, rt-impl, cofun-alone, code-alone, ext-pos-size}
+use Rattle.manual.specs.Formats.{dextm-pos-size, dextu-pos-size}
+use Rattle.manual.specs.Formats.{ins-pos-size, dinsm-pos-size, dinsu-pos-size, cc-offset, cc-fs-ft, rt-rd-sel}
+use Rattle.manual.specs.Formats.{stype-alone, link-rs}
 use Rattle.manual.specs.Formats.{code20, code19, rs-rt-code10, always, rs-not-31, hint-0, hint-16}
 use Rattle.manual.specs.Formats.{hint-0-rs-not-rd, hint-16-rs-not-rd, rt-same-as-rd, ends-inside}
 use Rattle.manual.specs.Formats.{size-positive, readable-control, writable-control, even-cc-in-rt}
@@ -112,7 +119,7 @@ co n = under 1 4 n
 -- name; MIPS32 or MIPS64 alone; op, rs, rt, rd, sa, funct; Format, Restrictions
 abbrev pub page : String → Isa → Column → Column → Column → Column → Column → Column → List Format → Rules → Page
 page m i a b c d e g φ u =
-    record { name = m; isa = i; pop = a; prs = b; prt = c; prd = d; psa = e; pfn = g; formats = φ; limit = u }
+    record { name = m; isa = i; pop = a; prs = b; prt = c; prd = d; psa = e; pfunct = g; formats = φ; limit = u }
 
 unfoldable pub pages : List Page
 pages =

@@ -1,7 +1,6 @@
 -- WHAT A PATCH RESTORES: a word that no exception covers (every word on which manual and source agree is one), decoded
 -- and encoded again, is the word itself, save for the words of seven pages, which come back with other fields. The
 -- proofs are in proofs/Patched.antt.
--- Assumes nothing.
 use Prim.Native.Nat.{ℕ, _<_}
 use Prim.Native.String.{String}
 use mathlib.Core.Path.{_≡_}
@@ -10,7 +9,7 @@ use mathlib.Core.List.{List, [], _∷_}
 use mathlib.Core.Option.{Option, none, some}
 use lib.Dec.{ltb}
 use lib.Text.{eqt}
-use Rattle.word.specs.Word.{Field, sameField, op, rt, fn, Fields, fieldsOf, word, words}
+use Rattle.word.specs.Word.{Field, sameField, op, rt, funct, Fields, fieldsOf, word, words}
 use Rattle.word.specs.Numbers.{imm}
 use Rattle.reading.specs.declared.Encoded.{Encoded}
 use Rattle.classes.specs.Decoded.{decodedOf}
@@ -56,8 +55,8 @@ swap n p m ρ cs x = record { swapped = n; page = p; read-as = m; range = ρ; ba
 unfoldable pub swaps : List Swap
 swaps =
     -- these are another instruction of the manual then, with the same reading
-    swap or-as-addu "or" "move" all (fn gets 33 ∷ []) (narrow 0x00000025) ∷
-    swap daddu-as-addu "daddu" "move" all (fn gets 33 ∷ []) (wide 0x0000002d) ∷
+    swap or-as-addu "or" "move" all (funct gets 33 ∷ []) (narrow 0x00000025) ∷
+    swap daddu-as-addu "daddu" "move" all (funct gets 33 ∷ []) (wide 0x0000002d) ∷
     swap ori-as-addiu "ori" "li" below-0x8000 (op gets 9 ∷ []) (narrow 0x34000000) ∷
     swap daddiu-as-addiu "daddiu" "li" all (op gets 9 ∷ []) (wide 0x64000000) ∷
     swap b-as-bgez "b" "b" all (op gets 1 ∷ rt gets 1 ∷ []) (narrow 0x10000000) ∷

@@ -1,6 +1,5 @@
 -- Why a class does not read a field, as the table of classes says it, compared with the pages: `zeros` where the page
 -- has zeros, `extra` where it has a field. The proof is in proofs/Reasons.antt.
--- Assumes nothing.
 use Prim.Native.Nat.{ℕ}
 use Prim.Native.String.{String}
 use mathlib.Core.Bool.{Bool, true, false, not, _&&_, _||_, Bool·beq}
@@ -8,31 +7,36 @@ use mathlib.Core.List.{List, [], _∷_, _++_}
 use lib.Dec.{T, eqb}
 use lib.Text.{eqt}
 use Rattle.reading.specs.Names.{nameOf}
-use Rattle.classes.specs.Row.{Why, fixed, dropped, Pat, is, read, readBut, skip, skipBut, low, Row, patOf}
+use Rattle.classes.specs.Row.{Pat, is, read, readBut, zeros, extra, skipBut, low, Row, patOf}
 use Rattle.classes.specs.Meaning.{six}
 use Rattle.classes.specs.Table.{table}
-use Rattle.classes.specs.Refusals.{elem}
+use Rattle.laws.specs.Lists.{elem}
 use Rattle.manual.specs.Page as page
 use Rattle.manual.specs.Page.{Column, columnOf, Line}
 use Rattle.manual.specs.Pages.{pages}
 use Rattle.manual.specs.Aliases.{linesOf}
 use Rattle.manual.specs.Exceptions.{reservedThree, reservedTwo, reservedCompares}
 
-unfoldable pub stated : Why → Column → Bool
-stated fixed (page.is v) = eqb v 0
-stated fixed (page.box n) = false
-stated fixed (page.over n k v) = false
-stated fixed (page.under v k n) = false
-stated dropped (page.is v) = false
-stated dropped (page.box n) = true
-stated dropped (page.over n k v) = true
-stated dropped (page.under v k n) = true
+-- the page has zeros there
+unfoldable pub zeroed : Column → Bool
+zeroed (page.is v) = eqb v 0
+zeroed (page.box n) = false
+zeroed (page.over n k v) = false
+zeroed (page.under v k n) = false
+
+-- the page has a field there
+unfoldable pub boxed : Column → Bool
+boxed (page.is v) = false
+boxed (page.box n) = true
+boxed (page.over n k v) = true
+boxed (page.under v k n) = true
 
 unfoldable pub reason : Pat → Column → Bool
 reason (is v) c = true
 reason read c = true
 reason (readBut v) c = true
-reason (skip y) c = stated y c
+reason zeros c = zeroed c
+reason extra c = boxed c
 reason (skipBut v) c = true
 reason (low v) c = true
 
@@ -40,7 +44,11 @@ reason (low v) c = true
 unfoldable pub reasons : String → List Line → Row → Bool
 reasons m [] r = true
 reasons m (ℓ ∷ ls) r =
-    elim (eqt m (ℓ .name)) [ true ↦ six (λ x. reason (patOf r x) (columnOf (ℓ .page) x)) && reasons m ls r | false ↦ reasons m ls r ]
+    elim (eqt m (ℓ .name)) [
+      | true ↦ six (λ x. reason (patOf r x) (columnOf (ℓ .page) x)) &&
+          reasons m ls r
+      | false ↦ reasons m ls r
+    ]
 
 unfoldable pub allReasons : List Line → List Row → Bool
 allReasons ls [] = true

@@ -1,6 +1,5 @@
 -- Each exception is needed: its example is a word that no other exception covers, and manuals and source differ there.
 -- The proof is in proofs/Shown.antt.
--- Assumes nothing.
 use Prim.Native.Nat.{ℕ}
 use mathlib.Core.Path.{_≡_}
 use mathlib.Core.Bool.{true, false}

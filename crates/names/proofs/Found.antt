@@ -1,5 +1,4 @@
 -- What `kindOf` finds: the place of a name in the list. No two names are the same, so each kind has its name back.
--- Assumes nothing.
 use Prim.Native.Nat.{ℕ, zero, suc, _+_, _≤_, _<_}
 use Prim.Native.String.{String}
 use mathlib.Core.Path.{_≡_, refl, sym, _∙_, ap, subst}
@@ -12,10 +11,11 @@ use lib.ListN.{length, getD, length-map, List·getD-map, List·getD-eq-default}
 use Rattle.buffers.specs.Bytes.{num}
 use Rattle.reading.specs.Kind.{many}
 use Rattle.reading.specs.Names.{mnemonics, nameOf}
-use Rattle.names.specs.Names.{letter, letters, padded, nameBytes, same, noKind, kindIn, kindOf}
-use Rattle.classes.specs.Refusals.{elem}
-use Rattle.classes.proofs.Tests.{and-l, and-r, or-l, or-r, distinct}
-use Rattle.names.proofs.Same.{same-eq, same-self}
+use Rattle.text.specs.Text.{letter, letters, padded, same}
+use Rattle.names.specs.Names.{nameBytes, noKind, kindIn, kindOf}
+use Rattle.laws.specs.Lists.{elem}
+use Rattle.laws.proofs.Tests.{and-l, and-r, or-l, or-r, distinct}
+use Rattle.text.proofs.Texts.{same-eq, same-self}
 
 -- ── the place of a name in a list ──
 

@@ -1,4 +1,4 @@
-pub mod Same
+pub mod Halves
 pub mod Found
 pub mod Tables
 pub mod Proved

@@ -1,5 +1,4 @@
 -- What specs/Theorems.antt states, proved.
--- Assumes nothing.
 use Prim.Native.Nat.{ℕ}
 use mathlib.Core.Path.{_≡_, refl, ap}
 use mathlib.Core.Bool.{Bool, true, false}
@@ -9,10 +8,11 @@ use lib.ListN.{drop}
 use borrow.Author.Tests.{ltb-true, ltb-false}
 use Rattle.reading.specs.Kind.{many}
 use Rattle.reading.specs.Names.{mnemonics, nameOf}
-use Rattle.names.specs.Names.{letter, letters, padded, nameBytes, same}
+use Rattle.text.specs.Text.{letter, letters, padded, same}
+use Rattle.names.specs.Names.{nameBytes}
 use Rattle.names.specs.Theorems.{Theorems}
-use Rattle.classes.proofs.Tests.{allBelow, below}
-use Rattle.names.proofs.Same.{same-eq}
+use Rattle.laws.proofs.Tests.{allBelow, below}
+use Rattle.text.proofs.Texts.{same-eq}
 use Rattle.names.proofs.Found.{name-one, no-name, back, named}
 
 zeros : List ℕ

@@ -1,5 +1,4 @@
 -- The tables of the source, each by a computed test: whatever list passes it serves.
--- Assumes nothing.
 use Prim.Native.Nat.{ℕ, _+_, _*_, _/_, _%_, _≤_, _<_}
 use mathlib.Core.Path.{_≡_, refl, sym, _∙_, ap, subst}
 use mathlib.Core.Bool.{Bool, true, false, _||_}
@@ -10,10 +9,11 @@ use lib.Dec.{T, eqb, ltb, eqb→eq, ltb→lt}
 use lib.ListN.{take, drop, getD, List·getD-eq-default}
 use Rattle.buffers.specs.Bytes.{numAt}
 use Rattle.reading.specs.Kind.{many}
-use Rattle.names.specs.Names.{padded, registers, registerBytes, nameBytes, same, noKind, kindOf}
+use Rattle.text.specs.Text.{padded, same}
+use Rattle.names.specs.Names.{registers, registerBytes, nameBytes, noKind, kindOf}
 use Rattle.names.specs.Private.Table.{IsRow, IsEntry, Candidate}
-use Rattle.classes.proofs.Tests.{allBelow, below}
-use Rattle.names.proofs.Same.{same-eq}
+use Rattle.laws.proofs.Tests.{allBelow, below}
+use Rattle.text.proofs.Texts.{same-eq}
 use Rattle.names.proofs.Found.{HasKind, kind-or-none, no-name, no-kind, back}
 
 -- ── REGS ──

@@ -1,28 +1,11 @@
 -- The names of registers and mnemonics as bytes, and which kind has a name.
--- Assumes nothing.
-use Prim.Native.Nat.{ℕ, zero, suc}
-use Prim.Native.Char.{code}
-use Prim.Native.String.{String, len, charAt}
-use mathlib.Core.Bool.{Bool, true, false, cond, _&&_}
+use Prim.Native.Nat.{ℕ, suc}
+use Prim.Native.String.{String}
+use mathlib.Core.Bool.{cond}
 use mathlib.Core.List.{List, [], _∷_}
-use lib.Dec.{eqb, ltb}
 use lib.ListN.{getD}
 use Rattle.reading.specs.Names.{mnemonics, nameOf}
-
--- ── a text in so many bytes ──
-
--- its letter at a place, and 0 past its end
-unfoldable pub letter : String → ℕ → ℕ
-letter s i = cond (ltb i (len s)) (code (charAt s i)) 0
-
--- n of its letters, from a place on
-unfoldable pub letters : ℕ → ℕ → String → List ℕ
-letters zero i s = []
-letters (suc n) i s = letter s i ∷ letters n (suc i) s
-
--- the text, then zeros: n bytes in all
-unfoldable pub padded : ℕ → String → List ℕ
-padded n s = letters n 0 s
+use Rattle.text.specs.Text.{padded, same}
 
 -- ── registers ──
 
@@ -33,22 +16,15 @@ registers =
     "s0" ∷ "s1" ∷ "s2" ∷ "s3" ∷ "s4" ∷ "s5" ∷ "s6" ∷ "s7" ∷ "t8" ∷ "t9" ∷ "k0" ∷ "k1" ∷ "gp" ∷ "sp" ∷ "fp" ∷ "ra" ∷
     []
 
--- a register's name in four bytes; a number that no register has has no name
+-- a register's name in four bytes; a number from 32 on has none
 unfoldable pub registerBytes : ℕ → List ℕ
 registerBytes n = padded 4 (getD registers n "")
 
 -- ── mnemonics ──
 
--- a mnemonic's name in sixteen bytes; a number that is no kind has no name
+-- a mnemonic's name in sixteen bytes; a number that is not a kind has none
 unfoldable pub nameBytes : ℕ → List ℕ
 nameBytes k = padded 16 (nameOf k)
-
--- are the bytes the same?
-unfoldable pub same : List ℕ → List ℕ → Bool
-same [] [] = true
-same [] (y ∷ ys) = false
-same (x ∷ xs) [] = false
-same (x ∷ xs) (y ∷ ys) = eqb x y && same xs ys
 
 -- the number that stands for none
 abbrev pub noKind : ℕ

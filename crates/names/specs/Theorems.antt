@@ -1,5 +1,4 @@
 -- WHAT IS PROVED OF THE NAMES. The proofs stand in proofs/Proved.antt.
--- Assumes nothing.
 use Prim.Native.Nat.{ℕ, _<_}
 use mathlib.Core.Path.{_≡_}
 use mathlib.Core.List.{List, [], _∷_}

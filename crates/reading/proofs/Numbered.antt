@@ -1,5 +1,4 @@
 -- The 212 kinds are the numbers from 0 on, each once.
--- Assumes nothing.
 use mathlib.Core.Path.{refl}
 use Rattle.reading.specs.Kind.{kinds, from, Numbered}
 

@@ -1,19 +1,17 @@
--- Equality of readings, part by part: a test's answer as a statement, and values that their parts determine.
--- Assumes nothing.
+-- Equality of readings, part by part: values that their parts determine, and tests that decide equality.
 use Prim.Native.Nat.{ℕ, zero, suc}
 use mathlib.Core.Path.{_≡_, refl, sym, _∙_, ap, subst}
-use mathlib.Core.Bool.{Bool, true, false, not, false≢true, Bool·beq}
+use mathlib.Core.Bool.{Bool, false, not}
 use mathlib.Core.List.{List, [], _∷_}
-use mathlib.Core.Logic.{_↔_}
 use lib.ListN.{length, getD}
 use native.Mathlib.Omega.{arith}
-use borrow.Author.Tests.{not-false, eqb-true, eq-eqb}
 use lib.Dec.{T, eqb}
 use lib.IntN.{ℤ}
 use mir.Syntax.{w64}
 use mir.Val.{SFits, toZ, ofZ, hasKey}
 use mir.Facts.{toZ-ofZ}
 use types.Run.{OneOf, miss}
+use Rattle.laws.proofs.Says.{Says, differs, number-says}
 use Rattle.reading.specs.declared.Op.{Op}
 use Rattle.reading.specs.declared.Op.the-variants.{Reg, FReg, Imm, Mem, Addr, Cop0}
 use Rattle.reading.specs.declared.Flow.{Flow}
@@ -26,28 +24,7 @@ use Rattle.reading.specs.declared.Operand.{Operand}
 use Rattle.reading.specs.declared.Insn.{Insn}
 use Rattle.reading.specs.declared.Parts.{Parts}
 use Rattle.reading.specs.Reading.{unused}
-use Rattle.reading.specs.Numbers.{opParts, effectParts, targetParts, flowNumber}
-
--- ── what a test's answer says ──
-
--- the test b is true exactly if P holds
-abbrev pub Says : Bool → Type 0 → Type 0
-Says b P = (b ≡ true) ↔ P
-
-pub differs : {P : Type 0} → (P → ⊥) → Says false P
-differs n = (λ e. absurd (false≢true e), λ p. absurd (n p))
-
-pub said-no : {b : Bool} {P : Type 0} → Says b P → not b ≡ true → P → ⊥
-said-no s e p = false≢true (sym (ap not (s .1 p)) ∙ e)
-
-pub said-yes : {b : Bool} {P : Type 0} → Says b P → not b ≡ false → P
-said-yes {b} s e = s .0 (not-false b e)
-
-pub beq-says : (a b : Bool) → Says (Bool·beq a b) (a ≡ b)
-beq-says true true = (λ e. refl, λ e. refl)
-beq-says true false = (λ e. absurd (false≢true e), λ e. absurd (false≢true (sym e)))
-beq-says false true = (λ e. absurd (false≢true e), λ e. absurd (false≢true e))
-beq-says false false = (λ e. refl, λ e. refl)
+use Rattle.reading.specs.Numbers.{parts, opParts, effectParts, targetParts, flowNumber}
 
 -- ── the parts determine the value ──
 
@@ -135,18 +112,23 @@ target-one = one targetParts targetFrom target-back
 pub flow-one : (x y : Flow) → flowNumber x ≡ flowNumber y → x ≡ y
 flow-one = one flowNumber flowFrom flow-back
 
+-- an i64 that a case holds is what is read back from its bits
+pub kept-value : (n a b s : ℕ) {z : ℤ} → SFits w64 z → parts n a b s (toZ w64 (ofZ w64 z)) 0 ≡ parts n a b s z 0
+kept-value n a b s f = ap (λ (v : ℤ). parts n a b s v 0) (toZ-ofZ {w = w64} f)
+
 -- an answer about the parts is one about the values
-pub by-parts : {A : Type 0} {b : Bool} (x y : A) (k : A → Parts) → ((x y : A) → k x ≡ k y → x ≡ y) → {m n : Parts} → m ≡ k x → n ≡ k y → Says b (m ≡ n) → Says b (x ≡ y)
+pub by-parts : {A : Type 0} {b : Bool} (x y : A) (k : A → Parts) → ((x y : A) → k x ≡ k y → x ≡ y) →
+    {m n : Parts} → m ≡ k x → n ≡ k y → Says b (m ≡ n) → Says b (x ≡ y)
 by-parts x y k tells p q s = (λ e. tells x y (sym p ∙ (s .0 e ∙ q)), λ e. s .1 (p ∙ (ap k e ∙ sym q)))
 
 -- ── operands, case by case ──
 
-pub number-says : (m n : ℕ) → Says (eqb m n) (m ≡ n)
-number-says m n = (eqb-true m n, eq-eqb m n)
-
 -- an i64 is compared by its bits
 pub signed-says : (x y : ℤ) → SFits w64 x → SFits w64 y → Says (eqb (ofZ w64 x) (ofZ w64 y)) (x ≡ y)
-signed-says x y f g = (λ e. sym (toZ-ofZ {w = w64} f) ∙ (ap (toZ w64) (says .0 e) ∙ toZ-ofZ {w = w64} g), λ e. says .1 (ap (ofZ w64) e))
+signed-says x y f g = (
+  λ e. sym (toZ-ofZ {w = w64} f) ∙ (ap (toZ w64) (says .0 e) ∙ toZ-ofZ {w = w64} g),
+  λ e. says .1 (ap (ofZ w64) e),
+)
   where
     says : Says (eqb (ofZ w64 x) (ofZ w64 y)) (ofZ w64 x ≡ ofZ w64 y)
     says = number-says (ofZ w64 x) (ofZ w64 y)
@@ -159,19 +141,24 @@ case-says case value back {x = x} {y} p q s =
 
 -- of two cases: tag is an operand's case as a number, and b's is one of these
 module _ (tag : Op → ℕ) where
-  pub cases-differ : (ks : List ℕ) {a b x : Op} → T (not (hasKey ks (tag x))) → a ≡ x → OneOf ks (tag b) → Says false (a ≡ b)
+  pub cases-differ : (ks : List ℕ) {a b x : Op} → T (not (hasKey ks (tag x))) → a ≡ x → OneOf ks (tag b) →
+      Says false (a ≡ b)
   cases-differ ks {x = x} t p k = differs (λ e. miss ks (tag x) t (subst (λ (o : Op). OneOf ks (tag o)) (sym e ∙ p) k))
 
 -- ── structs are equal if their fields are ──
 
-pub parts-one : (a b : Parts) → a .number ≡ b .number → a .first ≡ b .first → a .second ≡ b .second → a .size ≡ b .size → a .value ≡ b .value → a .address ≡ b .address → a ≡ b
-parts-one a b p q r s t u = λ i. record { number = p i; first = q i; second = r i; size = s i; value = t i; address = u i }
+pub parts-one : (a b : Parts) →
+    a .number ≡ b .number → a .first ≡ b .first → a .second ≡ b .second → a .size ≡ b .size →
+    a .value ≡ b .value → a .address ≡ b .address → a ≡ b
+parts-one a b p q r s t u =
+    λ i. record { number = p i; first = q i; second = r i; size = s i; value = t i; address = u i }
 
 pub operand-one : {b : Bool} (x y : Operand) → Says b (x .op ≡ y .op) → Says b (x ≡ y)
 operand-one x y s = (λ e i. record { op = s .0 e i }, λ e. s .1 (ap (λ (z : Operand). z .op) e))
 
 -- four operands, each by its place
-pub four-slots : (xs : List Operand) → length xs ≡ 4 → getD xs 0 unused ∷ getD xs 1 unused ∷ getD xs 2 unused ∷ getD xs 3 unused ∷ [] ≡ xs
+pub four-slots : (xs : List Operand) → length xs ≡ 4 →
+    getD xs 0 unused ∷ getD xs 1 unused ∷ getD xs 2 unused ∷ getD xs 3 unused ∷ [] ≡ xs
 four-slots [] h = absurd (omega arith)
 four-slots (a ∷ []) h = absurd (omega arith)
 four-slots (a ∷ b ∷ []) h = absurd (omega arith)
@@ -179,8 +166,22 @@ four-slots (a ∷ b ∷ c ∷ []) h = absurd (omega arith)
 four-slots (a ∷ b ∷ c ∷ d ∷ []) h = refl
 four-slots (a ∷ b ∷ c ∷ d ∷ e ∷ xs) h = absurd (omega arith)
 
-pub four : (xs ys : List Operand) → length xs ≡ 4 → length ys ≡ 4 → getD xs 0 unused ≡ getD ys 0 unused → getD xs 1 unused ≡ getD ys 1 unused → getD xs 2 unused ≡ getD ys 2 unused → getD xs 3 unused ≡ getD ys 3 unused → xs ≡ ys
+pub four : (xs ys : List Operand) → length xs ≡ 4 → length ys ≡ 4 →
+    getD xs 0 unused ≡ getD ys 0 unused → getD xs 1 unused ≡ getD ys 1 unused →
+    getD xs 2 unused ≡ getD ys 2 unused → getD xs 3 unused ≡ getD ys 3 unused → xs ≡ ys
 four xs ys h k p q r s = sym (four-slots xs h) ∙ ((λ i. p i ∷ q i ∷ r i ∷ s i ∷ []) ∙ four-slots ys k)
 
-pub insn-one : (a b : Insn) → a .mnemonic ≡ b .mnemonic → a .count ≡ b .count → a .ops ≡ b .ops → a .flow ≡ b .flow → a .target ≡ b .target → a .«delay_slot» ≡ b .«delay_slot» → a .effect ≡ b .effect → a ≡ b
-insn-one a b p q r s t u v = λ i. record { mnemonic = p i; count = q i; ops = r i; flow = s i; target = t i; «delay_slot» = u i; effect = v i }
+pub insn-one : (a b : Insn) →
+    a .mnemonic ≡ b .mnemonic → a .count ≡ b .count → a .ops ≡ b .ops → a .flow ≡ b .flow → a .target ≡ b .target →
+    a .«delay_slot» ≡ b .«delay_slot» → a .effect ≡ b .effect → a ≡ b
+insn-one a b p q r s t u v =
+    λ i.
+    record {
+      mnemonic = p i;
+      count = q i;
+      ops = r i;
+      flow = s i;
+      target = t i;
+      «delay_slot» = u i;
+      effect = v i;
+    }

@@ -1,6 +1,5 @@
--- The mnemonic kinds: a number for each of the 212 mnemonics, in the order of the manual's opcode tables. A point in a mnemonic is a
--- hyphen here: `add-s` is add.s.
--- Assumes nothing.
+-- The mnemonic kinds: a number for each of the 212 mnemonics, in the order of the manual's opcode tables. A point in a
+-- mnemonic is a hyphen here: `add-s` is add.s.
 use Prim.Native.Nat.{ℕ, zero, suc, _+_}
 use mathlib.Core.Path.{_≡_}
 use mathlib.Core.List.{List, [], _∷_}

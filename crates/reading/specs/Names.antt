@@ -1,5 +1,4 @@
 -- The names of the mnemonic kinds, as the source prints them.
--- Assumes nothing.
 use Prim.Native.Nat.{ℕ}
 use Prim.Native.String.{String}
 use mathlib.Core.List.{List, [], _∷_}

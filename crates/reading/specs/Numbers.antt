@@ -1,5 +1,5 @@
--- The numbers and values that document 01's packed record has for each case of an operand, an effect, a target and a flow.
--- Assumes nothing.
+-- The numbers and values that document 01's packed record has for each case of an operand, an effect, a target and a
+-- flow.
 use Prim.Native.Nat.{ℕ, _+_}
 use lib.IntN.{ℤ, pos}
 use Rattle.word.specs.Numbers.{modulo64}

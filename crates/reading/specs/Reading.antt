@@ -1,5 +1,4 @@
--- The blank reading, and what a refusal answers.
--- Assumes nothing.
+-- The blank reading, and what acceptance and refusal answer.
 use Prim.Native.Nat.{ℕ}
 use mathlib.Core.Bool.{false}
 use mathlib.Core.List.{[], _∷_}
@@ -33,5 +32,10 @@ blankInsn =
       effect = effect.None;
     }
 
+-- an accepted word's answer
+abbrev pub acceptedAs : Insn → Decoded
+acceptedAs i = record { number = 0; insn = i }
+
+-- a refused word's
 abbrev pub refusedOf : ℕ → Decoded
 refusedOf n = record { number = n; insn = blankInsn }

@@ -1,14 +1,14 @@
-// The reading of a word: the source's `Op`, `Effect`, `Insn` and `Flow`, the blank reading, and whether two readings are one.
-// Stands on `word` for the definition of two's complement.
+// The reading of a word: the source's `Op`, `Effect`, `Insn` and `Flow`, the blank reading, and whether two readings
+// are equal. Depends on `word` for the definition of two's complement.
 ghost use mathlib.Core.Path.{_≡_};
 ghost use mathlib.Core.Bool.{true};
 ghost use mathlib.Core.Logic.{_↔_};
 ghost use lib.IntN.{pos};
+ghost use Rattle.reading.specs.Ends.{endingOf};
 ghost use Rattle.reading.specs.Reading.{blankInsn, refusedOf};
 ghost use Rattle.reading.specs.Numbers.{parts, opParts, effectParts, targetParts, flowNumber};
 
 pub mod kind;
-pub mod refusal;
 
 pub enum Op {
     Reg(u8),
@@ -20,7 +20,7 @@ pub enum Op {
     Cop0(u8),
 }
 
-// An array of enums is no field's type, an array of structs that hold them is.
+// A field cannot be an array of enums, but it can be an array of structs that hold them.
 pub struct Operand {
     pub op: Op,
 }
@@ -63,6 +63,13 @@ pub struct Insn {
     pub effect: Effect,
 }
 
+// What a word does to its block: the block goes on, ends with the next word, or ends here, with the word itself.
+pub enum Ending {
+    On,
+    Slot,
+    Here,
+}
+
 // What reading a word gives: 0 and the reading, or the refusal number and the blank reading.
 pub struct Decoded {
     pub number: u8,
@@ -86,8 +93,8 @@ pub struct Parts {
     pub address: u64,
 }
 
-// A register or nothing.
-fn register(number: u8, first: u8) -> Parts
+// The parts of what has a register or nothing.
+fn with_register(number: u8, first: u8) -> Parts
     ensures { λ r. ⌜ r ≡ parts number first 0 0 (pos 0) 0 ⌝ }
 {
     Parts {
@@ -100,8 +107,8 @@ fn register(number: u8, first: u8) -> Parts
     }
 }
 
-// A signed value, with the registers and the size that stand beside it.
-fn signed(number: u8, first: u8, second: u8, size: u8, value: i64) -> Parts
+// Of what has a signed value, with the registers and the size beside it.
+fn with_value(number: u8, first: u8, second: u8, size: u8, value: i64) -> Parts
     ensures { λ r. ⌜ r ≡ parts number first second size value 0 ⌝ }
 {
     Parts {
@@ -114,7 +121,8 @@ fn signed(number: u8, first: u8, second: u8, size: u8, value: i64) -> Parts
     }
 }
 
-fn address(number: u8, first: u8, address: u64) -> Parts
+// Of what has an address.
+fn with_address(number: u8, first: u8, address: u64) -> Parts
     ensures { λ r. ⌜ r ≡ parts number first 0 0 (pos 0) address ⌝ }
 {
     Parts {
@@ -131,12 +139,12 @@ pub fn op_parts(o: Op) -> Parts
     ensures { λ r. ⌜ r ≡ opParts o ⌝ }
 {
     match o {
-        Op::Reg(n) => register(1, n),
-        Op::FReg(n) => register(2, n),
-        Op::Imm(z) => signed(3, 0, 0, 0, z),
-        Op::Mem(z, n) => signed(4, n, 0, 0, z),
-        Op::Addr(a) => address(5, 0, a),
-        Op::Cop0(n) => register(6, n),
+        Op::Reg(n) => with_register(1, n),
+        Op::FReg(n) => with_register(2, n),
+        Op::Imm(z) => with_value(3, 0, 0, 0, z),
+        Op::Mem(z, n) => with_value(4, n, 0, 0, z),
+        Op::Addr(a) => with_address(5, 0, a),
+        Op::Cop0(n) => with_register(6, n),
     }
 }
 
@@ -144,11 +152,11 @@ pub fn effect_parts(e: Effect) -> Parts
     ensures { λ r. ⌜ r ≡ effectParts e ⌝ }
 {
     match e {
-        Effect::None => register(0, 0),
-        Effect::SetAddr(t, a) => address(1, t, a),
-        Effect::AddImm(t, s, z) => signed(2, t, s, 0, z),
-        Effect::Mem(t, s, z, n) => signed(3, t, s, n, z),
-        Effect::Write(t) => register(4, t),
+        Effect::None => with_register(0, 0),
+        Effect::SetAddr(t, a) => with_address(1, t, a),
+        Effect::AddImm(t, s, z) => with_value(2, t, s, 0, z),
+        Effect::Mem(t, s, z, n) => with_value(3, t, s, n, z),
+        Effect::Write(t) => with_register(4, t),
     }
 }
 
@@ -156,8 +164,8 @@ pub fn target_parts(t: Target) -> Parts
     ensures { λ r. ⌜ r ≡ targetParts t ⌝ }
 {
     match t {
-        Target::None => register(0, 0),
-        Target::At(a) => address(1, 0, a),
+        Target::None => with_register(0, 0),
+        Target::At(a) => with_address(1, 0, a),
     }
 }
 
@@ -171,6 +179,16 @@ pub fn flow_number(f: Flow) -> u8
         Flow::CondJump => 3,
         Flow::Ret => 4,
         Flow::Interrupt => 5,
+    }
+}
+
+pub fn ends(i: Insn) -> Ending
+    ensures { λ r. ⌜ r ≡ endingOf i ⌝ }
+{
+    if i.delay_slot {
+        Ending::Slot
+    } else {
+        Ending::On
     }
 }
 
@@ -202,22 +220,10 @@ pub fn refused(n: u8) -> Decoded
 fn same_parts(a: Parts, b: Parts) -> bool
     ensures { λ r. ⌜ (r ≡ true) ↔ (a ≡ b) ⌝ }
 {
-    if a.number != b.number {
-        return false;
-    }
-    if a.first != b.first {
-        return false;
-    }
-    if a.second != b.second {
-        return false;
-    }
-    if a.size != b.size {
-        return false;
-    }
-    if a.value != b.value {
-        return false;
-    }
-    a.address == b.address
+    a.number == b.number
+        && (a.first == b.first
+            && (a.second == b.second
+                && (a.size == b.size && (a.value == b.value && a.address == b.address))))
 }
 
 fn same_op(a: Op, b: Op) -> bool
@@ -280,27 +286,11 @@ fn same_operand(a: Operand, b: Operand) -> bool
 fn same_operands(a: [Operand; 4], b: [Operand; 4]) -> bool
     ensures { λ r. ⌜ (r ≡ true) ↔ (a ≡ b) ⌝ }
 {
-    let a0 = a[0];
-    let b0 = b[0];
-    if !same_operand(a0, b0) {
-        return false;
-    }
-    let a1 = a[1];
-    let b1 = b[1];
-    if !same_operand(a1, b1) {
-        return false;
-    }
-    let a2 = a[2];
-    let b2 = b[2];
-    if !same_operand(a2, b2) {
-        return false;
-    }
-    let a3 = a[3];
-    let b3 = b[3];
-    same_operand(a3, b3)
+    same_operand(a[0], b[0])
+        && (same_operand(a[1], b[1]) && (same_operand(a[2], b[2]) && same_operand(a[3], b[3])))
 }
 
-// Are the two readings one? Every part counts, unused operands too.
+// Are the two readings equal? Every part counts, unused operands too.
 pub fn same_insn(a: Insn, b: Insn) -> bool
     ensures { λ r. ⌜ (r ≡ true) ↔ (a ≡ b) ⌝ }
 {

@@ -1,5 +1,4 @@
 -- Every word's reading can be packed and unpacked: what its operands, effect and target hold fits.
--- Assumes nothing.
 use Prim.Native.Nat.{ℕ, _^_, _≤_, _<_}
 use mathlib.Core.Path.{refl}
 use mathlib.Core.Bool.{Bool, true}
@@ -19,10 +18,12 @@ use Rattle.reading.specs.declared.Op.the-variants.{Reg, FReg, Imm, Mem, Addr, C
 use Rattle.reading.specs.Reading.{unused, blankInsn}
 use Rattle.reading.specs.Numbers.{parts, opParts, effectParts, targetParts}
 use Rattle.classes.specs.Row.{Code, reg, freg, cop0, num, size, s16, u16, mem, br, jmp, Form, Row}
-use Rattle.classes.specs.Row.{Change, nothing, writes, adds, sets, setsUpper, loads, stores}
+use Rattle.classes.specs.Row.{Change, nothing, writes, adds, sets, setsUpper, memory, memoryOnly}
 use Rattle.classes.specs.Meaning.{out, outs, second, third, slots, intOf, natOf, effectOf, targetIn, reading, meaning}
-use Rattle.classes.specs.Decoded.{decodedOf}
-use Rattle.classes.proofs.Find.{each-reading}
+use Rattle.classes.specs.Table.{table}
+use Rattle.classes.specs.Refusals.{Refusal, refusals}
+use Rattle.classes.specs.Decoded.{decodedBy, decodedOf}
+use Rattle.classes.proofs.Find.{every, reading-by}
 use Rattle.classes.proofs.Operands.{known, known-table, known-kind, known-most, Each, outs-each, any-code, slot-past, each-slot}
 use Rattle.record.specs.Theorems.{I64, Fits, Proper}
 
@@ -93,8 +94,8 @@ effect-fits writes os l h = none-fits
 effect-fits adds os l h = value-fits (int-fits (third os) (slots-fit os l h 2))
 effect-fits sets os l h = value-fits (int-fits (second os) (slots-fit os l h 1))
 effect-fits setsUpper os l h = address-fits (upper-small (natOf (intOf (second os))))
-effect-fits (loads n) os l h = value-fits (int-fits (second os) (slots-fit os l h 1))
-effect-fits (stores n) os l h = value-fits (int-fits (second os) (slots-fit os l h 1))
+effect-fits (memory n) os l h = value-fits (int-fits (second os) (slots-fit os l h 1))
+effect-fits (memoryOnly n) os l h = value-fits (int-fits (second os) (slots-fit os l h 1))
 
 target-fits : (os : List Op) → Each OpFits os → Fits (targetParts (targetIn os))
 unfolding targetIn
@@ -119,7 +120,7 @@ row-proper r w va t =
       four = refl;
       rest = slot-past os l;
       operands = slots-fit os l h;
-      effect = effect-fits (r .change) os l h;
+      effect = effect-fits (r .manner .change) os l h;
       target = target-fits os h;
     }
 
@@ -134,5 +135,11 @@ blank-proper =
       target = none-fits;
     }
 
+-- THE LAW for any table whose rows pass the test
+pub proper-by : (ts : List Row) (es : List Refusal) → T (every known ts) → (w va : ℕ) →
+    Proper ((decodedBy ts es va (fieldsOf w)) .insn)
+proper-by ts es t w va = reading-by Proper known blank-proper ts es t va (fieldsOf w) (λ r. row-proper r w va)
+
 pub proper : (w va : ℕ) (wide : Bool) → Proper ((decodedOf w va wide) .insn)
-proper w va wide = each-reading Proper known blank-proper w va wide (known-table wide) (λ r. row-proper r w va)
+unfolding decodedOf
+proper w va wide = proper-by (table wide) refusals (known-table wide) w va

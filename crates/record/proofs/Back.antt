@@ -1,6 +1,5 @@
 -- Each part of a reading comes back from the bytes that it was packed into.
--- Assumes nothing.
-use Prim.Native.Nat.{ℕ, _+_, _*_, _%_, _^_, _<_}
+use Prim.Native.Nat.{ℕ, _+_, _*_, _%_, _^_, _<_, _≤_}
 use mathlib.Core.Path.{_≡_, refl, sym, ap, _∙_}
 use mathlib.Core.Bool.{Bool, true, false}
 use mathlib.Core.List.{List, [], _∷_, _++_}
@@ -8,7 +7,7 @@ use native.Mathlib.Nat.{add-zero}
 use native.Mathlib.Omega.{arith}
 use lib.Dec.{eqb, ltb}
 use lib.IntN.{ℤ, pos, negsuc}
-use lib.ListN.{length, getD}
+use lib.ListN.{length, take, drop, getD, length-append}
 use lib.Seq.{take-at}
 use borrow.Author.Tests.{ltb-false}
 use mir.Syntax.{w64}
@@ -17,6 +16,7 @@ use Rattle.word.specs.Numbers.{signed, modulo64}
 use Rattle.word.proofs.Signed.{modulo-small, modulo-back}
 use Rattle.reading.specs.declared.Op.{Op}
 use Rattle.reading.specs.declared.Op.the-variants.{Reg, FReg, Imm, Mem, Addr, Cop0}
+use Rattle.reading.specs.declared.Operand.{Operand}
 use Rattle.reading.specs.declared.Flow.{Flow}
 use Rattle.reading.specs.declared.Flow.the-variants as flow
 use Rattle.reading.specs.declared.Effect.{Effect}
@@ -28,12 +28,13 @@ use Rattle.reading.specs.declared.Parts.{Parts}
 use Rattle.reading.specs.Reading.{operand, unused}
 use Rattle.reading.specs.Numbers.{opParts, effectParts, targetParts, valueOf, flowNumber}
 use Rattle.reading.proofs.Same.{four-slots}
-use Rattle.buffers.specs.Bytes.{lowBytes, num}
-use Rattle.buffers.proofs.Numbers.{num-le}
-use Rattle.names.specs.Names.{letters, padded, nameBytes, kindOf}
+use Rattle.buffers.specs.Bytes.{lowBytes, num, numAt}
+use Rattle.buffers.proofs.Numbers.{num-le, in-reach}
+use Rattle.text.specs.Text.{letters, padded}
+use Rattle.names.specs.Names.{nameBytes, kindOf}
 use Rattle.names.proofs.Proved.{theorems}
-use Rattle.record.specs.Record.{bit, slotParts, slotOf, insnBytes}
-use Rattle.record.specs.Unpacked.{opIn, effectIn, flowIn, targetIn, slotIn, insnIn}
+use Rattle.record.specs.Record.{size, bit, slotParts, slotOf, headBytes, effectBytes, operandBytes, insnBytes}
+use Rattle.record.specs.Unpacked.{opBy, effectBy, flowBy, targetBy, insnIn}
 use Rattle.record.specs.Theorems.{I64, Fits, Proper}
 
 -- ── values ──
@@ -57,7 +58,7 @@ address-back a h =
 abbrev valueIn : Parts → ℕ
 valueIn p = num (lowBytes 8 (valueOf p))
 
-op-back : (o : Op) → Fits (opParts o) → opIn (opParts o .number) (opParts o .first) (valueIn (opParts o)) ≡ o
+op-back : (o : Op) → Fits (opParts o) → opBy (opParts o .number) (opParts o .first) (valueIn (opParts o)) ≡ o
 op-back (Reg n) f = refl
 op-back (FReg n) f = refl
 op-back (Imm z) f = ap Imm (value-back z (f .value))
@@ -65,14 +66,15 @@ op-back (Mem z n) f = ap (λ (x : ℤ). Mem x n) (value-back z (f .value))
 op-back (Addr a) f = ap Addr (address-back a (f .address))
 op-back (Cop0 n) f = refl
 
-pub effect-back : (e : Effect) → Fits (effectParts e) → (let p : Parts = effectParts e in effectIn (p .number) (p .first) (p .second) (p .size) (valueIn p) ≡ e)
+pub effect-back : (e : Effect) → Fits (effectParts e) →
+    (let p : Parts = effectParts e in effectBy (p .number) (p .first) (p .second) (p .size) (valueIn p) ≡ e)
 effect-back effect.None f = refl
 effect-back (effect.SetAddr t a) f = ap (effect.SetAddr t) (address-back a (f .address))
 effect-back (effect.AddImm t s z) f = ap (effect.AddImm t s) (value-back z (f .value))
 effect-back (effect.Mem t s z n) f = ap (λ (x : ℤ). effect.Mem t s x n) (value-back z (f .value))
 effect-back (effect.Write t) f = refl
 
-pub flow-back : (f : Flow) → flowIn (flowNumber f) ≡ f
+pub flow-back : (f : Flow) → flowBy (flowNumber f) ≡ f
 flow-back flow.None = refl
 flow-back flow.Call = refl
 flow-back flow.Jump = refl
@@ -80,7 +82,8 @@ flow-back flow.CondJump = refl
 flow-back flow.Ret = refl
 flow-back flow.Interrupt = refl
 
-pub target-back : (b : Bool) (t : Target) → Fits (targetParts t) → targetIn (bit b + 2 * targetParts t .number) (valueIn (targetParts t)) ≡ t
+pub target-back : (b : Bool) (t : Target) → Fits (targetParts t) →
+    targetBy (bit b + 2 * targetParts t .number) (valueIn (targetParts t)) ≡ t
 target-back true target.None f = refl
 target-back false target.None f = refl
 target-back true (target.At a) f = ap target.At (address-back a (f .address))
@@ -94,13 +97,17 @@ mark-back false (target.At a) = refl
 
 -- ── the four slots ──
 
-pub slot-back : (i : Insn) (k : ℕ) → Proper i → (let p : Parts = slotOf i k in slotIn (p .number) (p .first) (valueIn p) ≡ getD (i .ops) k unused)
+-- the operand of ten bytes
+abbrev slotBy : Parts → Operand
+slotBy p = operand (opBy (p .number) (p .first) (valueIn p))
+
+pub slot-back : (i : Insn) (k : ℕ) → Proper i → slotBy (slotOf i k) ≡ getD (i .ops) k unused
 slot-back i k q = go (ltb k (i .count)) refl
   where
     o : Op
     o = getD (i .ops) k unused .op
 
-    go : (b : Bool) → ltb k (i .count) ≡ b → (let p : Parts = slotParts b o in slotIn (p .number) (p .first) (valueIn p) ≡ getD (i .ops) k unused)
+    go : (b : Bool) → ltb k (i .count) ≡ b → slotBy (slotParts b o) ≡ getD (i .ops) k unused
     go true e = ap operand (op-back o (q .operands k))
     go false e = sym (q .rest k (ltb-false k (i .count) e))
 
@@ -110,16 +117,47 @@ pub name-long : (k : ℕ) → length (nameBytes k) ≡ 16
 unfolding nameBytes padded letters
 name-long k = refl
 
-pub insn-back : (i : Insn) → Proper i → (after : List ℕ) → insnIn (insnBytes i ++ after) ≡ i
-unfolding insnIn
-insn-back i q after =
-    λ t.
-    record {
-      mnemonic = (ap kindOf (take-at (nameBytes (i .mnemonic)) after 16 (name-long (i .mnemonic))) ∙ theorems .back (i .mnemonic) (q .known)) t;
-      count = i .count;
-      ops = ((λ s. slot-back i 0 q s ∷ slot-back i 1 q s ∷ slot-back i 2 q s ∷ slot-back i 3 q s ∷ []) ∙ four-slots (i .ops) (q .four)) t;
-      flow = flow-back (i .flow) t;
-      target = target-back (i .«delay_slot») (i .target) (q .target) t;
-      «delay_slot» = mark-back (i .«delay_slot») (i .target) t;
-      effect = effect-back (i .effect) (q .effect) t;
-    }
+pub insn-long : (i : Insn) → length (insnBytes i) ≡ size
+insn-long i =
+    rw (
+      length-append (headBytes i ++ effectBytes (i .effect) ++ operandBytes i) (nameBytes (i .mnemonic)),
+      name-long (i .mnemonic),
+    )
+
+module _ (i : Insn) (q : Proper i) (after : List ℕ) where
+  -- a number that is there
+  number : (at v : ℕ) → at + 8 ≤ size → num (take 8 (drop at (insnBytes i ++ after))) ≡ v →
+      numAt 8 at (insnBytes i ++ after) ≡ v
+  number at v h e =
+      in-reach 8 at (insnBytes i ++ after) (rw (length-append (insnBytes i) after) (omega (arith, insn-long i))) ∙ e
+
+  slot : (k at : ℕ) → at + 8 ≤ size → num (take 8 (drop at (insnBytes i ++ after))) ≡ valueIn (slotOf i k) →
+      (let p : Parts = slotOf i k in operand (opBy (p .number) (p .first) (numAt 8 at (insnBytes i ++ after)))) ≡
+      getD (i .ops) k unused
+  slot k at h e =
+      let p : Parts = slotOf i k in
+      ap (λ (v : ℕ). operand (opBy (p .number) (p .first) v)) (number at (valueIn p) h e) ∙ slot-back i k q
+
+  pub insn-back : insnIn (insnBytes i ++ after) ≡ i
+  unfolding insnIn
+  insn-back =
+      let t : Parts = targetParts (i .target) in
+      let e : Parts = effectParts (i .effect) in
+      λ s.
+      record {
+        mnemonic =
+            (ap kindOf (take-at (nameBytes (i .mnemonic)) after 16 (name-long (i .mnemonic)))
+            ∙ theorems .back (i .mnemonic) (q .known)) s;
+        count = i .count;
+        ops =
+            ((λ s. slot 0 26 (omega arith) refl s ∷ slot 1 36 (omega arith) refl s ∷ slot 2 46 (omega arith) refl s ∷
+            slot 3 56 (omega arith) refl s ∷ []) ∙ four-slots (i .ops) (q .four)) s;
+        flow = flow-back (i .flow) s;
+        target =
+            (ap (targetBy (bit (i .«delay_slot») + 2 * t .number)) (number 4 (valueIn t) (omega arith) refl)
+            ∙ target-back (i .«delay_slot») (i .target) (q .target)) s;
+        «delay_slot» = mark-back (i .«delay_slot») (i .target) s;
+        effect =
+            (ap (effectBy (e .number) (e .first) (e .second) (e .size)) (number 16 (valueIn e) (omega arith) refl)
+            ∙ effect-back (i .effect) (q .effect)) s;
+      }

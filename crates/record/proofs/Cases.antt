@@ -1,5 +1,4 @@
 -- A case by its number: what numbers outside of the list count as. And a record by its answer's number.
--- Assumes nothing.
 use Prim.Native.Nat.{ℕ, zero, suc, _≤_, _<_}
 use mathlib.Core.Path.{_≡_, refl, ap}
 use mathlib.Core.List.{List}

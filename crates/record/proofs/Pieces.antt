@@ -1,5 +1,4 @@
 -- Some bytes and then a number, at a place; and pieces one after the other.
--- Assumes nothing.
 use Prim.Native.Nat.{ℕ, _+_, _^_, _≤_, _<_}
 use mathlib.Core.Path.{_≡_, refl, sym, ap, _∙_, subst}
 use mathlib.Core.Bool.{Bool}
@@ -13,7 +12,7 @@ use native.Mathlib.Nat.{add-zero}
 use Rattle.buffers.specs.Bytes.{lowBytes, num}
 use Rattle.buffers.proofs.Laws.{bytes-at}
 use Rattle.buffers.proofs.Numbers.{num-le}
-use Rattle.reading.proofs.Same.{Says}
+use Rattle.laws.proofs.Says.{Says}
 use Rattle.record.specs.Private.Steps.{part}
 
 -- ── p and then q, of n and m bytes ──
@@ -23,10 +22,16 @@ module _ (at n m : ℕ) (p q l : List ℕ) (long : length p ≡ n) where
   left-part e = sym (take-at p q n long) ∙ ap (take n) e ∙ take-take n (n + m) (drop at l) (omega arith)
 
   pub right-part : at + n ≤ length l → p ++ q ≡ part at (n + m) l → q ≡ part (at + n) m l
-  right-part h e = sym (drop-at p q n long) ∙ ap (drop n) (e ∙ take-add n m (drop at l)) ∙ drop-at (take n (drop at l)) (take m (drop n (drop at l))) n (length-take-le n (drop at l) (simp length-drop (omega (arith, h)))) ∙ ap (take m) (drop-drop n at l)
+  right-part h e =
+      let size = length-take-le n (drop at l) (simp length-drop (omega (arith, h))) in
+      sym (drop-at p q n long)
+      ∙ ap (drop n) (e ∙ take-add n m (drop at l))
+      ∙ drop-at (take n (drop at l)) (take m (drop n (drop at l))) n size
+      ∙ ap (take m) (drop-drop n at l)
 
   pub both-parts : p ≡ part at n l → q ≡ part (at + n) m l → p ++ q ≡ part at (n + m) l
-  both-parts e f = (λ i. e i ++ f i) ∙ ap (λ (x : List ℕ). take n (drop at l) ++ take m x) (sym (drop-drop n at l)) ∙ sym (take-add n m (drop at l))
+  both-parts e f =
+      (λ i. e i ++ f i) ∙ ap (λ (x : List ℕ). take n (drop at l) ++ take m x) (sym (drop-drop n at l)) ∙ sym (take-add n m (drop at l))
 
 -- ── eight bytes as a number ──
 
@@ -43,15 +48,18 @@ byte-of at n l p k h e = sym (ap (λ (x : List ℕ). getD x k 0) e ∙ getD-take
 pub first-byte : (at n : ℕ) (l p : List ℕ) → 0 < n → p ≡ part at n l → getD l at 0 ≡ getD p 0 0
 first-byte at n l p h e = ap (λ (k : ℕ). getD l k 0) (sym (add-zero at)) ∙ byte-of at n l p 0 h e
 
-pub two-bytes : (at x y : ℕ) (l : List ℕ) → at + 2 ≤ length l → getD l at 0 ≡ x → getD l (at + 1) 0 ≡ y → x ∷ y ∷ [] ≡ part at 2 l
+pub two-bytes : (at x y : ℕ) (l : List ℕ) → at + 2 ≤ length l →
+    getD l at 0 ≡ x → getD l (at + 1) 0 ≡ y → x ∷ y ∷ [] ≡ part at 2 l
 two-bytes at x y l h p q = (λ i. sym p i ∷ sym q i ∷ []) ∙ sym (bytes-at 1 at l h)
 
-pub four-bytes : (at w x y z : ℕ) (l : List ℕ) → at + 4 ≤ length l → getD l at 0 ≡ w → getD l (at + 1) 0 ≡ x → getD l (at + 2) 0 ≡ y → getD l (at + 3) 0 ≡ z →
+pub four-bytes : (at w x y z : ℕ) (l : List ℕ) → at + 4 ≤ length l →
+    getD l at 0 ≡ w → getD l (at + 1) 0 ≡ x → getD l (at + 2) 0 ≡ y → getD l (at + 3) 0 ≡ z →
     w ∷ x ∷ y ∷ z ∷ [] ≡ part at 4 l
 four-bytes at w x y z l h p q r s = (λ i. sym p i ∷ sym q i ∷ sym r i ∷ sym s i ∷ []) ∙ sym (bytes-at 3 at l h)
 
--- some bytes that stand there, and a number n in the eight bytes after them: is it v?
-pub then-number : (at k : ℕ) (bs l : List ℕ) (v n : ℕ) → length bs ≡ k → at + k + 8 ≤ length l → v < 2 ^ 64 → n < 2 ^ 64 →
+-- some bytes that are there, and a number n in the eight bytes after them: is it v?
+pub then-number : (at k : ℕ) (bs l : List ℕ) (v n : ℕ) → length bs ≡ k →
+    at + k + 8 ≤ length l → v < 2 ^ 64 → n < 2 ^ 64 →
     bs ≡ part at k l → lowBytes 8 n ≡ part (at + k) 8 l → Says (eqb n v) (bs ++ lowBytes 8 v ≡ part at (k + 8) l)
 then-number at k bs l v n long h p q b e = (
   λ t. both-parts at k 8 bs (lowBytes 8 v) l long b (ap (lowBytes 8) (sym (eqb-true n v t)) ∙ e),
@@ -89,6 +97,8 @@ module _ (s t u v l : List ℕ) (a : length s ≡ 10) (b : length t ≡ 10) (c :
   pub slot-3 : s ++ t ++ u ++ v ≡ part 24 40 l → v ≡ part 54 10 l
   slot-3 e = right-part 24 30 10 (s ++ t ++ u) v l long-three (omega arith) e
 
-  pub all-slots : s ≡ part 24 10 l → t ≡ part 34 10 l → u ≡ part 44 10 l → v ≡ part 54 10 l → s ++ t ++ u ++ v ≡ part 24 40 l
+  pub all-slots : s ≡ part 24 10 l → t ≡ part 34 10 l → u ≡ part 44 10 l → v ≡ part 54 10 l →
+      s ++ t ++ u ++ v ≡ part 24 40 l
   all-slots p q r w =
-      both-parts 24 30 10 (s ++ t ++ u) v l long-three (both-parts 24 20 10 (s ++ t) u l long-two (both-parts 24 10 10 s t l a p q) r) w
+      both-parts 24 30 10 (s ++ t ++ u) v l long-three
+      (both-parts 24 20 10 (s ++ t) u l long-two (both-parts 24 10 10 s t l a p q) r) w

@@ -1,5 +1,4 @@
 -- What specs/Theorems.antt states, proved.
--- Assumes nothing.
 use Prim.Native.Nat.{ℕ, zero, suc, _≤_, _<_}
 use mathlib.Core.Path.{_≡_, refl, sym, ap, _∙_, subst}
 use mathlib.Core.Bool.{Bool, true, false, cond}
@@ -9,22 +8,19 @@ use lib.Dec.{ltb}
 use lib.ListN.{length, take, length-append}
 use lib.Seq.{take-at}
 use borrow.Author.Tests.{le-ltb}
+use Rattle.refusal.specs.Numbers as refusal
 use Rattle.reading.specs.declared.Insn.{Insn}
 use Rattle.reading.specs.declared.Decoded.{Decoded}
 use Rattle.reading.specs.Kind.{many}
-use Rattle.reading.specs.Reading.{refusedOf}
-use Rattle.classes.specs.Decoded.{acceptedAs, decodedOf}
+use Rattle.reading.specs.Reading.{refusedOf, acceptedAs}
+use Rattle.classes.specs.Decoded.{decodedOf}
 use Rattle.classes.proofs.Accepts.{accepted-insn}
-use Rattle.names.specs.Names.{nameBytes}
-use Rattle.record.specs.Record.{size, headBytes, effectBytes, operandBytes, insnBytes, bytesBy, recordOf}
+use Rattle.record.specs.Record.{size, insnBytes, bytesBy, recordOf}
 use Rattle.record.specs.Unpacked.{insnIn, isRecord, unpacked}
 use Rattle.record.specs.Theorems.{Proper, Theorems}
-use Rattle.record.proofs.Back.{name-long, insn-back}
+use Rattle.record.proofs.Back.{insn-long, insn-back}
 use Rattle.record.proofs.Accepted.{proper}
 use Rattle.record.proofs.Whole.{is-record, record-bytes}
-
-insn-long : (i : Insn) → length (insnBytes i) ≡ size
-insn-long i = rw (length-append (headBytes i ++ effectBytes (i .effect) ++ operandBytes i) (nameBytes (i .mnemonic)), name-long (i .mnemonic))
 
 bytes-long : (n : ℕ) (i : Insn) → length (bytesBy n i) ≡ size
 bytes-long zero i = insn-long i
@@ -49,29 +45,34 @@ back i q after =
     let e : insnIn l ≡ i = as-insn i q after in
     let h : size ≤ length l = rw (length-append r after) (omega (arith, record-long (acceptedAs i))) in
     let known : insnIn l .mnemonic < many = subst (λ (x : Insn). x .mnemonic < many) (sym e) (q .known) in
-    let bytes : insnBytes (insnIn l) ≡ take size l = ap insnBytes e ∙ sym (as-bytes i) ∙ sym (take-at r after size (record-long (acceptedAs i))) in
+    let bytes : insnBytes (insnIn l) ≡ take size l =
+    ap insnBytes e ∙ sym (as-bytes i) ∙ sym (take-at r after size (record-long (acceptedAs i))) in
     rw (le-ltb (length l) size h, is-record l known bytes) (ap acceptedAs e)
 
 forth : (l : List ℕ) (i : Insn) → unpacked l ≡ acceptedAs i → recordOf (acceptedAs i) ≡ take size l
 forth l i e = go (ltb (length l) size) (isRecord l) refl e
   where
     answer : Bool → Bool → Decoded
-    answer s t = cond s (refusedOf 16) (cond t (acceptedAs (insnIn l)) (refusedOf 9))
+    answer s t = cond s (refusedOf refusal.short-record) (cond t (acceptedAs (insnIn l)) (refusedOf refusal.no-word))
 
     number : Decoded → ℕ
     number d = d .number
 
     go : (s t : Bool) → isRecord l ≡ t → answer s t ≡ acceptedAs i → recordOf (acceptedAs i) ≡ take size l
-    go true t p f = absurd (let z : 16 ≡ 0 = ap number f in omega (arith, z))
-    go false false p f = absurd (let z : 9 ≡ 0 = ap number f in omega (arith, z))
+    go true t p f = absurd (let z : refusal.short-record ≡ 0 = ap number f in omega (arith, z))
+    go false false p f = absurd (let z : refusal.no-word ≡ 0 = ap number f in omega (arith, z))
     go false true p f = as-bytes i ∙ ap (λ (d : Decoded). insnBytes (d .insn)) (sym f) ∙ record-bytes l p
 
 -- what was packed is what comes back
-pub answer-back : (d : Decoded) → d .number ≡ 0 → Proper (d .insn) → (after : List ℕ) → unpacked (recordOf d ++ after) ≡ d
+pub answer-back : (d : Decoded) → d .number ≡ 0 → Proper (d .insn) → (after : List ℕ) →
+    unpacked (recordOf d ++ after) ≡ d
 answer-back d e q after =
     ap (λ (x : Decoded). unpacked (recordOf x ++ after)) (accepted-insn d e) ∙ back (d .insn) q after ∙ sym (accepted-insn d e)
 
-one : (w v va ua : ℕ) (wide broad : Bool) → (decodedOf w va wide) .number ≡ 0 → (decodedOf v ua broad) .number ≡ 0 → recordOf (decodedOf w va wide) ≡ recordOf (decodedOf v ua broad) → (decodedOf w va wide) .insn ≡ (decodedOf v ua broad) .insn
+one : (w v va ua : ℕ) (wide broad : Bool) →
+    (decodedOf w va wide) .number ≡ 0 → (decodedOf v ua broad) .number ≡ 0 →
+    recordOf (decodedOf w va wide) ≡ recordOf (decodedOf v ua broad) →
+    (decodedOf w va wide) .insn ≡ (decodedOf v ua broad) .insn
 one w v va ua wide broad p q e =
     ap (λ (d : Decoded). d .insn)
     (sym (answer-back (decodedOf w va wide) p (proper w va wide) [])

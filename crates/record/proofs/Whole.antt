@@ -1,5 +1,4 @@
 -- When the reading that 80 bytes say is packed into those bytes again.
--- Assumes nothing.
 use Prim.Native.Nat.{ℕ, suc, _+_, _≤_, _<_}
 use mathlib.Core.Path.{_≡_, refl, sym, ap, _∙_, subst}
 use mathlib.Core.Bool.{Bool, true, false}
@@ -11,9 +10,10 @@ use lib.ListN.{length, take}
 use borrow.Author.Tests.{lt-ltb}
 use Rattle.reading.specs.declared.Insn.{Insn}
 use Rattle.reading.specs.Kind.{many}
-use Rattle.classes.proofs.Tests.{and-l, and-r, at-true}
-use Rattle.names.specs.Names.{nameBytes, kindOf, noKind, same}
-use Rattle.names.proofs.Same.{same-eq, same-self}
+use Rattle.laws.proofs.Tests.{and-l, and-r, at-true}
+use Rattle.text.specs.Text.{same}
+use Rattle.names.specs.Names.{nameBytes, kindOf, noKind}
+use Rattle.text.proofs.Texts.{same-eq, same-self}
 use Rattle.names.proofs.Found.{HasKind, kind-or-none}
 use Rattle.record.specs.Record.{size, headBytes, effectBytes, operandBytes, insnBytes}
 use Rattle.record.specs.Unpacked.{insnIn, isRecord}

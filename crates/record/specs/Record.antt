@@ -1,11 +1,11 @@
--- THE PACKED RECORD: the 80 bytes that stand for the answer to a word, and what a writer of them leaves in a lent buffer.
--- Assumes nothing.
+-- THE PACKED RECORD: the 80 bytes of the answer to a word, and what a writer of them leaves in a lent buffer.
 use Prim.Native.Nat.{ℕ, zero, suc, _+_, _*_}
 use mathlib.Core.Bool.{Bool, true, false, cond}
 use mathlib.Core.List.{List, _∷_, _++_}
 use lib.Dec.{ltb}
 use lib.IntN.{pos}
 use lib.ListN.{length, getD, replicate}
+use Rattle.refusal.specs.Numbers as refusal
 use Rattle.reading.specs.declared.Op.{Op}
 use Rattle.reading.specs.declared.Effect.{Effect}
 use Rattle.reading.specs.declared.Insn.{Insn}
@@ -67,9 +67,9 @@ bytesBy (suc n) i = numberBytes (suc n)
 unfoldable pub recordOf : Decoded → List ℕ
 recordOf d = bytesBy (d .number) (d .insn)
 
--- what the packer answers with a buffer of n bytes: 16 if it is too short
+-- what the packer answers with a buffer of n bytes
 abbrev pub packNumber : Decoded → ℕ → ℕ
-packNumber d n = cond (ltb n size) 16 (d .number)
+packNumber d n = cond (ltb n size) refusal.short-record (d .number)
 
 -- and what it leaves of the buffer l: all of it if it is too short, else the record and what stood after it
 abbrev pub packed : Decoded → List ℕ → List ℕ

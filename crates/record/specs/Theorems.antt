@@ -1,5 +1,4 @@
 -- WHAT PACKING AND UNPACKING SAY OF EACH OTHER.
--- Assumes nothing.
 use Prim.Native.Nat.{ℕ, _^_, _≤_, _<_}
 use mathlib.Core.Path.{_≡_}
 use mathlib.Core.Bool.{Bool}
@@ -10,9 +9,9 @@ use Rattle.reading.specs.declared.Insn.{Insn}
 use Rattle.reading.specs.declared.Decoded.{Decoded}
 use Rattle.reading.specs.declared.Parts.{Parts}
 use Rattle.reading.specs.Kind.{many}
-use Rattle.reading.specs.Reading.{unused}
+use Rattle.reading.specs.Reading.{unused, acceptedAs}
 use Rattle.reading.specs.Numbers.{opParts, effectParts, targetParts}
-use Rattle.classes.specs.Decoded.{acceptedAs, decodedOf}
+use Rattle.classes.specs.Decoded.{decodedOf}
 use Rattle.record.specs.Record.{size, recordOf}
 use Rattle.record.specs.Unpacked.{unpacked}
 
@@ -26,7 +25,7 @@ pub record Fits (p : Parts) : Type 0 where
   pub value : I64 (p .value)
   pub address : p .address < 2 ^ 64
 
--- a reading of one of the mnemonics, with four slots of which those that are not used hold register 0, and values that fit
+-- a reading of one of the mnemonics, with four slots, register 0 in those that are not used, and values that fit
 pub record Proper (i : Insn) : Type 0 where
   pub known : i .mnemonic < many
   pub four : length (i .ops) ≡ 4
@@ -38,11 +37,14 @@ pub record Proper (i : Insn) : Type 0 where
 pub record Theorems : Type 0 where
   -- every record has 80 bytes
   pub long : (d : Decoded) → length (recordOf d) ≡ size
-  -- a record is unpacked to the reading that was packed, whatever stands after it
+  -- a record is unpacked to the reading that was packed, whatever comes after it
   pub back : (i : Insn) → Proper i → (after : List ℕ) → unpacked (recordOf (acceptedAs i) ++ after) ≡ acceptedAs i
   -- and what is unpacked to a reading is its record
   pub forth : (l : List ℕ) (i : Insn) → unpacked l ≡ acceptedAs i → recordOf (acceptedAs i) ≡ take size l
   -- every word's reading is such a reading
   pub proper : (w va : ℕ) (wide : Bool) → Proper ((decodedOf w va wide) .insn)
   -- two accepted words with one record have one reading, at whatever addresses and flags
-  pub one : (w v va ua : ℕ) (wide broad : Bool) → (decodedOf w va wide) .number ≡ 0 → (decodedOf v ua broad) .number ≡ 0 → recordOf (decodedOf w va wide) ≡ recordOf (decodedOf v ua broad) → (decodedOf w va wide) .insn ≡ (decodedOf v ua broad) .insn
+  pub one : (w v va ua : ℕ) (wide broad : Bool) →
+      (decodedOf w va wide) .number ≡ 0 → (decodedOf v ua broad) .number ≡ 0 →
+      recordOf (decodedOf w va wide) ≡ recordOf (decodedOf v ua broad) →
+      (decodedOf w va wide) .insn ≡ (decodedOf v ua broad) .insn

@@ -1,10 +1,11 @@
 -- WHAT A RECORD IS UNPACKED TO, for any bytes at all.
--- Assumes nothing.
-use Prim.Native.Nat.{ℕ, _/_, _%_}
+use Prim.Native.Nat.{ℕ, _+_, _/_, _%_}
 use mathlib.Core.Bool.{Bool, cond, _&&_}
 use mathlib.Core.List.{List, [], _∷_}
 use lib.Dec.{eqb, ltb}
+use lib.IntN.{ℤ}
 use lib.ListN.{length, take, drop, getD}
+use Rattle.refusal.specs.Numbers as refusal
 use Rattle.word.specs.Numbers.{signed}
 use Rattle.reading.specs.declared.Op.{Op}
 use Rattle.reading.specs.declared.Op.the-variants.{Reg, FReg, Imm, Mem, Addr, Cop0}
@@ -18,61 +19,64 @@ use Rattle.reading.specs.declared.Target.the-variants as target
 use Rattle.reading.specs.declared.Insn.{Insn}
 use Rattle.reading.specs.declared.Decoded.{Decoded}
 use Rattle.reading.specs.Kind.{many}
-use Rattle.reading.specs.Reading.{operand, refusedOf}
-use Rattle.classes.specs.Decoded.{acceptedAs}
-use Rattle.buffers.specs.Bytes.{num}
-use Rattle.names.specs.Names.{same, kindOf}
+use Rattle.reading.specs.Reading.{operand, refusedOf, acceptedAs}
+use Rattle.buffers.specs.Bytes.{numAt}
+use Rattle.text.specs.Text.{same}
+use Rattle.names.specs.Names.{kindOf}
 use Rattle.record.specs.Record.{size, insnBytes}
 
--- the byte at a place, and the number in eight bytes from a place on
+-- the byte at a place
 abbrev pub byteAt : ℕ → List ℕ → ℕ
 byteAt at l = getD l at 0
 
-abbrev pub numberAt : ℕ → List ℕ → ℕ
-numberAt at l = num (take 8 (drop at l))
-
 -- by their numbers, in the source's order
 
-abbrev pub opIn : ℕ → ℕ → ℕ → Op
-opIn n r v = getD (Reg 0 ∷ Reg r ∷ FReg r ∷ Imm (signed 64 v) ∷ Mem (signed 64 v) r ∷ Addr v ∷ Cop0 r ∷ []) n (Reg 0)
+abbrev pub opBy : ℕ → ℕ → ℕ → Op
+opBy n r v = getD (Reg 0 ∷ Reg r ∷ FReg r ∷ Imm (signed 64 v) ∷ Mem (signed 64 v) r ∷ Addr v ∷ Cop0 r ∷ []) n (Reg 0)
 
-abbrev pub effectIn : ℕ → ℕ → ℕ → ℕ → ℕ → Effect
-effectIn n a b s v =
-    getD (effect.None ∷ effect.SetAddr a v ∷ effect.AddImm a b (signed 64 v) ∷ effect.Mem a b (signed 64 v) s ∷ effect.Write a ∷ []) n effect.None
+abbrev pub effectBy : ℕ → ℕ → ℕ → ℕ → ℕ → Effect
+effectBy n a b s v =
+    let z : ℤ = signed 64 v in
+    getD (effect.None ∷ effect.SetAddr a v ∷ effect.AddImm a b z ∷ effect.Mem a b z s ∷ effect.Write a ∷ []) n
+    effect.None
 
-abbrev pub flowIn : ℕ → Flow
-flowIn n = getD (flow.None ∷ flow.Call ∷ flow.Jump ∷ flow.CondJump ∷ flow.Ret ∷ flow.Interrupt ∷ []) n flow.None
+abbrev pub flowBy : ℕ → Flow
+flowBy n = getD (flow.None ∷ flow.Call ∷ flow.Jump ∷ flow.CondJump ∷ flow.Ret ∷ flow.Interrupt ∷ []) n flow.None
 
 -- bit 1 of the byte of marks says whether there is a target
-abbrev pub targetIn : ℕ → ℕ → Target
-targetIn m v = cond (eqb (m / 2 % 2) 1) (target.At v) target.None
+abbrev pub targetBy : ℕ → ℕ → Target
+targetBy m v = cond (eqb (m / 2 % 2) 1) (target.At v) target.None
 
-abbrev pub slotIn : ℕ → ℕ → ℕ → Operand
-slotIn n r v = operand (opIn n r v)
+-- the effect in bytes 12 to 23
+abbrev pub effectIn : List ℕ → Effect
+effectIn l = effectBy (byteAt 12 l) (byteAt 13 l) (byteAt 14 l) (byteAt 15 l) (numAt 8 16 l)
+
+-- the operand in the ten bytes from a place on
+abbrev pub slotIn : ℕ → List ℕ → Operand
+slotIn at l = operand (opBy (byteAt at l) (byteAt (at + 1) l) (numAt 8 (at + 2) l))
 
 abbrev pub slotsIn : List ℕ → List Operand
-slotsIn l =
-    slotIn (byteAt 24 l) (byteAt 25 l) (numberAt 26 l) ∷ slotIn (byteAt 34 l) (byteAt 35 l) (numberAt 36 l) ∷
-    slotIn (byteAt 44 l) (byteAt 45 l) (numberAt 46 l) ∷ slotIn (byteAt 54 l) (byteAt 55 l) (numberAt 56 l) ∷
-    []
+slotsIn l = slotIn 24 l ∷ slotIn 34 l ∷ slotIn 44 l ∷ slotIn 54 l ∷ []
 
--- the reading that the first 80 bytes say, where a number that stands for no case counts as 0
+-- the reading that the first 80 bytes say, where a number that is not of any case counts as 0
 unfoldable pub insnIn : List ℕ → Insn
 insnIn l =
     record {
       mnemonic = kindOf (take 16 (drop 64 l));
       count = byteAt 3 l;
       ops = slotsIn l;
-      flow = flowIn (byteAt 1 l);
-      target = targetIn (byteAt 2 l) (numberAt 4 l);
+      flow = flowBy (byteAt 1 l);
+      target = targetBy (byteAt 2 l) (numAt 8 4 l);
       «delay_slot» = eqb (byteAt 2 l % 2) 1;
-      effect = effectIn (byteAt 12 l) (byteAt 13 l) (byteAt 14 l) (byteAt 15 l) (numberAt 16 l);
+      effect = effectIn l;
     }
 
 -- are the first 80 bytes the record of a reading, with a mnemonic that there is?
 abbrev pub isRecord : List ℕ → Bool
 isRecord l = ltb (insnIn l .mnemonic) many && same (insnBytes (insnIn l)) (take size l)
 
--- 16 for fewer than 80 bytes, 9 for what is no reading's record
+-- refused for fewer than 80 bytes, and for what is not the record of a reading
 abbrev pub unpacked : List ℕ → Decoded
-unpacked l = cond (ltb (length l) size) (refusedOf 16) (cond (isRecord l) (acceptedAs (insnIn l)) (refusedOf 9))
+unpacked l =
+    cond (ltb (length l) size) (refusedOf refusal.short-record)
+    (cond (isRecord l) (acceptedAs (insnIn l)) (refusedOf refusal.no-word))

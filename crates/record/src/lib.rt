@@ -1,5 +1,5 @@
 // The packed record of document 01: 80 bytes for what reading a word gives. Packing it, and unpacking it.
-// Stands on `reading`, `buffers` and `names`; specs/Record.antt says what the bytes are.
+// Depends on `reading`, `buffers` and `names`; specs/Record.antt says what the bytes are.
 ghost use mathlib.Core.Path.{_≡_};
 ghost use mathlib.Core.Bool.{true};
 ghost use mathlib.Core.List.{_∷_, _++_};
@@ -8,10 +8,12 @@ ghost use Prim.Native.Nat.{_+_, _*_, _%_, _^_, _≤_, _<_};
 ghost use lib.ListN.{length, take, drop};
 ghost use Rattle.word.specs.Numbers.{signed};
 ghost use Rattle.reading.specs.Numbers.{targetParts, effectParts, valueOf};
-ghost use Rattle.buffers.specs.Bytes.{over, overAt, lowBytes};
+ghost use Rattle.buffers.specs.Bytes.{over, overAt, lowBytes, numAt};
 ghost use Rattle.names.specs.Names.{nameBytes};
-ghost use Rattle.record.specs.Record.{size, bit, headBytes, effectBytes, slotOf, slotBytes, operandBytes, numberBytes, packNumber, packed};
-ghost use Rattle.record.specs.Unpacked.{byteAt, numberAt, opIn, effectIn, flowIn, targetIn, slotIn, slotsIn, insnIn, unpacked};
+ghost use Rattle.record.specs.Record.{size, bit, headBytes, effectBytes, slotOf, slotBytes, operandBytes};
+ghost use Rattle.record.specs.Record.{numberBytes, packNumber, packed};
+ghost use Rattle.record.specs.Unpacked.{opBy, effectBy, flowBy, targetBy};
+ghost use Rattle.record.specs.Unpacked.{effectIn, slotIn, slotsIn, insnIn, unpacked};
 ghost use Rattle.record.specs.Private.Steps.{part, Holds};
 use reading::Decoded;
 use reading::Effect;
@@ -21,14 +23,10 @@ use reading::Op;
 use reading::Operand;
 use reading::Parts;
 use reading::Target;
-use reading::refusal;
 
 pub const SIZE: usize = 80;
 
-// The number of a buffer with fewer bytes.
-pub const SHORT_BUFFER: u8 = 16;
-
-// Where the parts of a record stand; the number stands at its start.
+// Where the parts of a record are; the number is at its start.
 const FLOW: usize = 1;
 
 const MARKS: usize = 2;
@@ -49,14 +47,15 @@ const NAME: usize = 64;
 
 // ── packing ──
 
-// The record of an answer, to the start of `out`: 0 or the answer's own number, and 16 if `out` is too short.
+// The record of an answer, to the start of `out`: 0 or the answer's own number, and that of a short record if `out` is
+// too short.
 // Every step takes the answer whole: it lies in memory once, and each step loads what it needs.
 pub fn pack(d: Decoded, out: &mut [u8]) -> u8
     ensures { λ r. ⌜ r ≡ packNumber d (length (now (out .entry))) ⌝ }
     ensures { λ _. ⌜ now (out .exit) ≡ packed d (now (out .entry)) ⌝ }
 {
     if out.len() < SIZE {
-        return SHORT_BUFFER;
+        return refusal::SHORT_RECORD;
     }
     if d.number != 0 {
         refuse(d.number, out);
@@ -80,7 +79,8 @@ fn refuse(n: u8, out: &mut [u8])
 
 fn front(d: Decoded, out: &mut [u8])
     requires { ⌜ size ≤ length (now out) ⌝ }
-    ensures { λ _. ⌜ now (out .exit) ≡ overAt 0 (headBytes (d .insn) ++ effectBytes (d .insn .effect)) (now (out .entry)) ⌝ }
+    ensures { λ _. ⌜ now (out .exit) ≡
+        overAt 0 (headBytes (d .insn) ++ effectBytes (d .insn .effect)) (now (out .entry)) ⌝ }
 {
     head(d, out);
     effect(d, out);
@@ -191,12 +191,13 @@ fn value_of(p: Parts) -> u64
 
 // ── unpacking ──
 
-// The reading whose record these bytes begin with: 16 if there are fewer than 80, 9 if it is no reading's record.
+// The reading whose record these bytes begin with; refused if there are fewer than 80, or if they are not the record of
+// any reading.
 pub fn unpack(b: &[u8]) -> Decoded
     ensures { λ r. ⌜ r ≡ unpacked (now (b .entry)) ⌝ }
 {
     if b.len() < SIZE {
-        return reading::refused(SHORT_BUFFER);
+        return reading::refused(refusal::SHORT_RECORD);
     }
     let d = Decoded {
         number: 0,
@@ -209,7 +210,7 @@ pub fn unpack(b: &[u8]) -> Decoded
     }
 }
 
-// The reading that the bytes say, where a number that stands for no case counts as 0.
+// The reading that the bytes say, where a number that is not of any case counts as 0.
 fn insn_in(b: &[u8]) -> Insn
     requires { ⌜ size ≤ length (now b) ⌝ }
     ensures { λ r. ⌜ r ≡ insnIn (now (b .entry)) ⌝ }
@@ -218,8 +219,8 @@ fn insn_in(b: &[u8]) -> Insn
         mnemonic: names::kind_of(name_in(b)),
         count: b[COUNT],
         ops: operands_in(b),
-        flow: flow_in(b[FLOW]),
-        target: target_in(b[MARKS], buffers::get8(b, TARGET)),
+        flow: flow_by(b[FLOW]),
+        target: target_by(b[MARKS], buffers::get8(b, TARGET)),
         delay_slot: b[MARKS] % 2 == 1,
         effect: effect_in(b),
     }
@@ -250,8 +251,8 @@ fn name_in(b: &[u8]) -> [u8; 16]
     ]
 }
 
-fn flow_in(n: u8) -> Flow
-    ensures { λ r. ⌜ r ≡ flowIn n ⌝ }
+fn flow_by(n: u8) -> Flow
+    ensures { λ r. ⌜ r ≡ flowBy n ⌝ }
 {
     match n {
         1 => Flow::Call,
@@ -263,8 +264,8 @@ fn flow_in(n: u8) -> Flow
     }
 }
 
-fn target_in(marks: u8, v: u64) -> Target
-    ensures { λ r. ⌜ r ≡ targetIn marks v ⌝ }
+fn target_by(marks: u8, v: u64) -> Target
+    ensures { λ r. ⌜ r ≡ targetBy marks v ⌝ }
 {
     if marks / 2 % 2 == 1 {
         Target::At(v)
@@ -275,9 +276,9 @@ fn target_in(marks: u8, v: u64) -> Target
 
 fn effect_in(b: &[u8]) -> Effect
     requires { ⌜ size ≤ length (now b) ⌝ }
-    ensures { λ r. ⌜ r ≡ effectIn (byteAt 12 (now (b .entry))) (byteAt 13 (now (b .entry))) (byteAt 14 (now (b .entry))) (byteAt 15 (now (b .entry))) (numberAt 16 (now (b .entry))) ⌝ }
+    ensures { λ r. ⌜ r ≡ effectIn (now (b .entry)) ⌝ }
 {
-    effect_of(
+    effect_by(
         b[EFFECT],
         b[EFFECT + 1],
         b[EFFECT + 2],
@@ -286,8 +287,8 @@ fn effect_in(b: &[u8]) -> Effect
     )
 }
 
-fn effect_of(n: u8, first: u8, second: u8, width: u8, v: u64) -> Effect
-    ensures { λ r. ⌜ r ≡ effectIn n first second width v ⌝ }
+fn effect_by(n: u8, first: u8, second: u8, width: u8, v: u64) -> Effect
+    ensures { λ r. ⌜ r ≡ effectBy n first second width v ⌝ }
 {
     match n {
         1 => Effect::SetAddr(first, v),
@@ -312,15 +313,15 @@ fn operands_in(b: &[u8]) -> [Operand; 4]
 
 fn operand_in(b: &[u8], at: usize) -> Operand
     requires { ⌜ at + 10 ≤ length (now b) ⌝ }
-    ensures { λ r. ⌜ r ≡ slotIn (byteAt at (now (b .entry))) (byteAt (at + 1) (now (b .entry))) (numberAt (at + 2) (now (b .entry))) ⌝ }
+    ensures { λ r. ⌜ r ≡ slotIn at (now (b .entry)) ⌝ }
 {
     Operand {
-        op: op_of(b[at], b[at + 1], buffers::get8(b, at + 2)),
+        op: op_by(b[at], b[at + 1], buffers::get8(b, at + 2)),
     }
 }
 
-fn op_of(n: u8, r: u8, v: u64) -> Op
-    ensures { λ o. ⌜ o ≡ opIn n r v ⌝ }
+fn op_by(n: u8, r: u8, v: u64) -> Op
+    ensures { λ o. ⌜ o ≡ opBy n r v ⌝ }
 {
     match n {
         1 => Op::Reg(r),
@@ -354,16 +355,7 @@ fn is_record(d: Decoded, b: &[u8]) -> bool
     ensures { λ r. ⌜ (r ≡ true) ↔ Holds (d .insn) (now (b .entry)) ⌝ }
 {
     let i = d.insn;
-    if i.mnemonic == names::NO_KIND {
-        return false;
-    }
-    if !is_head(d, b) {
-        return false;
-    }
-    if !is_effect(d, b) {
-        return false;
-    }
-    are_operands(d, b)
+    i.mnemonic != names::NO_KIND && (is_head(d, b) && (is_effect(d, b) && are_operands(d, b)))
 }
 
 fn is_head(d: Decoded, b: &[u8]) -> bool
@@ -399,16 +391,7 @@ fn are_operands(d: Decoded, b: &[u8]) -> bool
     requires { ⌜ size ≤ length (now b) ⌝ }
     ensures { λ r. ⌜ (r ≡ true) ↔ (operandBytes (d .insn) ≡ part 24 40 (now (b .entry))) ⌝ }
 {
-    if !is_operand(d, 0, b) {
-        return false;
-    }
-    if !is_operand(d, 1, b) {
-        return false;
-    }
-    if !is_operand(d, 2, b) {
-        return false;
-    }
-    is_operand(d, 3, b)
+    is_operand(d, 0, b) && (is_operand(d, 1, b) && (is_operand(d, 2, b) && is_operand(d, 3, b)))
 }
 
 fn is_operand(d: Decoded, k: usize, b: &[u8]) -> bool
@@ -425,30 +408,13 @@ fn has_four(b: &[u8], at: usize, w: u8, x: u8, y: u8, z: u8, v: u64) -> bool
     requires { ⌜ at + 12 ≤ length (now b) ⌝ }
     ensures { λ r. ⌜ (r ≡ true) ↔ (w ∷ x ∷ y ∷ z ∷ lowBytes 8 v ≡ part at 12 (now (b .entry))) ⌝ }
 {
-    if b[at] != w {
-        return false;
-    }
-    if b[at + 1] != x {
-        return false;
-    }
-    if b[at + 2] != y {
-        return false;
-    }
-    if b[at + 3] != z {
-        return false;
-    }
-    buffers::get8(b, at + 4) == v
+    b[at] == w
+        && (b[at + 1] == x && (b[at + 2] == y && (b[at + 3] == z && buffers::get8(b, at + 4) == v)))
 }
 
 fn has_two(b: &[u8], at: usize, x: u8, y: u8, v: u64) -> bool
     requires { ⌜ at + 10 ≤ length (now b) ⌝ }
     ensures { λ r. ⌜ (r ≡ true) ↔ (x ∷ y ∷ lowBytes 8 v ≡ part at 10 (now (b .entry))) ⌝ }
 {
-    if b[at] != x {
-        return false;
-    }
-    if b[at + 1] != y {
-        return false;
-    }
-    buffers::get8(b, at + 2) == v
+    b[at] == x && (b[at + 1] == y && buffers::get8(b, at + 2) == v)
 }

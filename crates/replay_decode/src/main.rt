@@ -1,7 +1,7 @@
-// Replays answers of the Rust. They come on standard input, a line for each, in the columns that tests/vectors/README.md lists. Each
-// line's word is decoded in three ways, and every part of each reading is compared with the line. The program prints how many answers
-// came and how many agree; where one does not, a second line names the first of them. Stands on `decode`, on `names`
-// and `columns` for the lines, and on the kit's `io` and `libc`.
+// Replays answers of the Rust. They come on standard input, a line for each, in the columns that
+// tests/vectors/README.md lists. Each line's word is decoded in three ways, and every part of each reading is compared
+// with the line. The program prints how many answers came and how many agree; where one does not, a second line names
+// the first of them. Depends on `decode`, on `names` and `columns` for the lines, and on the kit's `io` and `libc`.
 mod answer;
 mod mnemonic;
 mod parts;
@@ -44,7 +44,8 @@ fn decoded(way: u8, a: Answer) -> Decoded {
     decode::decode(&swapped, a.va, true, a.wide)
 }
 
-// Is the text the mnemonic of the reading? A refusal carries the blank reading, whose mnemonic is `nop`, and has no text.
+// Is the text the mnemonic of the reading? A refusal carries the blank reading, whose mnemonic is `nop`, and has no
+// text.
 fn same_mnemonic(text: &[u8], d: Decoded) -> bool {
     let insn = d.insn;
     let mnemonic = insn.mnemonic;
@@ -119,8 +120,9 @@ fn replay_lines(s: &[u8], tally: Tally) -> Replayed
 
 // ── standard input ──
 
-// Reads once to the buffer behind the bytes that it holds, and answers how many it holds then: no more than before at the end of the
-// input or where reading fails. The number of answers tells the second from the first to whoever knows how many were sent.
+// Reads once to the buffer behind the bytes that it holds, and answers how many it holds then: no more than before at
+// the end of the input or where reading fails. Only the number of answers tells the two apart, to a caller who knows
+// how many were sent.
 fn refill(buffer: &mut [u8], held: usize) -> usize
     requires { ⌜ held ≤ length (now buffer) ⌝ }
     ensures { λ r. ⌜ (held ≤ r) × (r ≤ length (now (buffer .entry))) ⌝ }
@@ -130,7 +132,8 @@ fn refill(buffer: &mut [u8], held: usize) -> usize
     held + io::count(got, room)
 }
 
-// What one read leaves to the next: the tally, and how many bytes of a line whose newline has not come yet stand in the buffer.
+// What one read leaves to the next: the tally, and how many bytes of a line whose newline has not come yet are in the
+// buffer.
 struct Carried {
     tally: Tally,
     held: usize,
@@ -159,7 +162,8 @@ fn finished(c: Carried) -> Tally {
     tally.with(Verdict::Malformed)
 }
 
-// A proved loop has to end, and nothing says that the input does. So the loop counts its turns down, from a number that no run uses up.
+// A proved loop has to end, and nothing says that the input does. So the loop counts its turns down, from a number that
+// no run uses up.
 fn replay_input(buffer: &mut [u8]) -> Tally {
     let mut carried = Carried {
         tally: report::nothing_yet(),

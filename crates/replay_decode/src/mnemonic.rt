@@ -5,10 +5,10 @@ const NAME_SIZE: usize = 16;
 
 const PAD: u8 = 0;
 
-// What stands for the mnemonic of a refused word.
+// What a line has for the mnemonic of a refused word.
 const NO_NAME: u8 = b'-';
 
-// Is the text the name of the kind? A zero in the text is no letter of a name.
+// Is the text the name of the kind? A zero in the text is not a letter of a name.
 pub(crate) fn is_name(text: &[u8], kind: u8) -> bool {
     let size = text.len();
     if NAME_SIZE <= size {

@@ -62,7 +62,8 @@ pub(crate) fn with_slot(p: [u64; PARTS], k: usize, s: Slot) -> [u64; PARTS] {
     q
 }
 
-fn wide(x: u8) -> u64 {
+// A byte as a number of 64 bits.
+fn widened(x: u8) -> u64 {
     x as u64
 }
 
@@ -71,13 +72,13 @@ fn value(p: Parts) -> u64 {
     std::num::wrapping_add_u64(word::twos_complement(p.value), p.address)
 }
 
-// What a line has for operand k of so many.
+// What a line has for operand k of `count`.
 fn slot_of(k: u8, count: u8, o: Operand) -> Slot {
     let op = o.op;
     let p = reading::op_parts(op);
     let held = Slot {
-        kind: wide(p.number),
-        register: wide(p.first),
+        kind: widened(p.number),
+        register: widened(p.first),
         value: value(p),
     };
     if k < count {
@@ -102,17 +103,17 @@ pub(crate) fn of(d: Decoded) -> [u64; PARTS] {
     let t = reading::target_parts(target);
     let e = reading::effect_parts(effect);
     let mut p = [0u64; PARTS];
-    p[NUMBER] = wide(d.number);
-    p[FLOW] = wide(reading::flow_number(flow));
+    p[NUMBER] = widened(d.number);
+    p[FLOW] = widened(reading::flow_number(flow));
     p[MARK] = if insn.delay_slot { 1 } else { 0 };
-    p[PRESENT] = wide(t.number);
+    p[PRESENT] = widened(t.number);
     p[TARGET] = value(t);
-    p[EFFECT] = wide(e.number);
-    p[FIRST] = wide(e.first);
-    p[SECOND] = wide(e.second);
-    p[SIZE] = wide(e.size);
+    p[EFFECT] = widened(e.number);
+    p[FIRST] = widened(e.first);
+    p[SECOND] = widened(e.second);
+    p[SIZE] = widened(e.size);
     p[VALUE] = value(e);
-    p[COUNT] = wide(insn.count);
+    p[COUNT] = widened(insn.count);
     p = with_slot(p, 0, slot_of(0, insn.count, ops[0]));
     p = with_slot(p, 1, slot_of(1, insn.count, ops[1]));
     p = with_slot(p, 2, slot_of(2, insn.count, ops[2]));

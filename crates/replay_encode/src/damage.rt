@@ -1,8 +1,8 @@
 // Readings that no word has, each made of a reading that a word has by changing one part of it.
 //
-// Every word's reading has one of 212 mnemonics, registers below 32, values from -0x8000 to 0xffff, and register 0 in each unused slot.
-// Its operand count, flow, mark, target and effect follow from its mnemonic and its used operands, except that `jalr` has two counts.
-// So a reading that differs in one of these parts alone is no word's.
+// Every word's reading has one of 212 mnemonics, registers below 32, values from -0x8000 to 0xffff, and register 0 in
+// each unused slot. Its operand count, flow, mark, target and effect follow from its mnemonic and its used operands,
+// except that `jalr` has two counts. So no word has a reading that differs in one of these parts alone.
 use reading::Effect;
 use reading::Flow;
 use reading::Insn;
@@ -11,7 +11,7 @@ use reading::Operand;
 use reading::Target;
 use reading::kind;
 
-// The parts that are changed, each in so many ways at most: a way is a part times `VARIANTS` and a variant.
+// The parts that are changed, each in at most `VARIANTS` ways: a way is a part times `VARIANTS` and a variant.
 pub(crate) const COUNT: u8 = 0;
 
 pub(crate) const REGISTER: u8 = 1;
@@ -57,7 +57,7 @@ const ABOVE_16_BITS: i64 = 0x1_0000;
 
 const BELOW_16_BITS: i64 = -0x8001;
 
-// From one address jumps reach 2^28 bytes and branches fewer, so nothing that lies so far behind a target is a target too.
+// From one address jumps reach 2^28 bytes and branches fewer, so nothing that far behind a target is a target too.
 const OUT_OF_REACH: u64 = 0x1000_0000;
 
 // ── a reading with one part put in ──
@@ -129,7 +129,8 @@ fn with_effect(insn: Insn, effect: Effect) -> Insn {
 
 // ── operands ──
 
-// One operand more or fewer is no damage to `jalr`: `jalr x` and `jalr x, zero` are both readings, and differ in the count alone.
+// One operand more or fewer does not damage `jalr`: `jalr x` and `jalr x, zero` are both readings, and differ in the
+// count alone.
 fn other_count(insn: Insn, variant: u8) -> Insn {
     let count = insn.count;
     let has_two_counts = insn.mnemonic == kind::JALR;
@@ -230,7 +231,8 @@ fn other_register(insn: Insn, variant: u8) -> Insn {
     with_op(insn, slot, of_no_register(op_in(insn, slot)))
 }
 
-// An effect that holds the value too keeps it. That of a shift, `andi`, `sc` or `cache` has no value, and only the range tells there.
+// An effect that holds the value too keeps it. That of a shift, `andi`, `sc` or `cache` has no value, and only the
+// range tells there.
 fn other_value(insn: Insn, variant: u8) -> Insn {
     let slot = first_slot(insn, VALUE);
     if slot == SLOTS {
@@ -244,8 +246,8 @@ fn other_value(insn: Insn, variant: u8) -> Insn {
     }
 }
 
-// Moves the last operand in use one slot on. The count stays, since `jalr x` with one more is `jalr zero, x`; so the operand comes to
-// stand in an unused slot. Register 0 may stand there, and the reading is then the same.
+// Moves the last operand in use one slot on. The count stays, since `jalr x` with one more is `jalr zero, x`; so the
+// operand comes to stand in an unused slot. Register 0 may stand there, and the reading is then the same.
 fn moved(insn: Insn, variant: u8) -> Insn {
     let count = insn.count;
     if count == 0 || count >= SLOTS || variant > 0 {

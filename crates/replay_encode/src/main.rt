@@ -1,7 +1,8 @@
-// Replays words through the encoder. They come on standard input, a line for each, in the columns that tests/vectors/README.md lists
-// for encode.txt. Each line's word is decoded and its reading encoded, which is to give the line's smallest word; then the reading is
-// damaged in many ways, and no word may come of it. The program prints how many words came and how many agree, and how many damaged
-// readings there were; before it a line for each of the first failures. Stands on `decode`, `encode` and `columns`, and on the kit's `io` and `libc`.
+// Replays words through the encoder. They come on standard input, a line for each, in the columns that
+// tests/vectors/README.md lists for encode.txt. Each line's word is decoded and its reading encoded, which is to give
+// the line's smallest word; then the reading is damaged in many ways, and no word may come of it. The program prints
+// how many words came and how many agree, and how many damaged readings there were; before it a line for each of the
+// first failures. Depends on `decode`, `encode` and `columns`, and on the kit's `io` and `libc`.
 mod damage;
 mod question;
 mod report;
@@ -17,9 +18,7 @@ use report::Verdict;
 // The number of an accepted word.
 const ACCEPTED: u8 = 0;
 
-// The number of a reading that no word has, and the word that comes with it.
-const NO_WORD: u8 = 9;
-
+// The word that comes with the refusal of a reading that no word has.
 const WORD_OF_NONE: u32 = 0;
 
 // ── one line ──
@@ -29,7 +28,7 @@ fn is_encoded_as(e: Encoded, word: u32) -> bool {
 }
 
 fn is_refused(e: Encoded) -> bool {
-    e.number == NO_WORD && e.word == WORD_OF_NONE
+    e.number == refusal::NO_WORD && e.word == WORD_OF_NONE
 }
 
 // Is the reading encoded by the line's smallest word, and is that word read so?
@@ -118,8 +117,9 @@ fn replay_lines(s: &[u8], tally: Tally) -> Replayed
 
 // ── standard input ──
 
-// Reads once to the buffer behind the bytes that it holds, and answers how many it holds then: no more than before at the end of the
-// input or where reading fails. The number of words tells the second from the first to whoever knows how many were sent.
+// Reads once to the buffer behind the bytes that it holds, and answers how many it holds then: no more than before at
+// the end of the input or where reading fails. Only the number of words tells the two apart, to a caller who knows how
+// many were sent.
 fn refill(buffer: &mut [u8], held: usize) -> usize
     requires { ⌜ held ≤ length (now buffer) ⌝ }
     ensures { λ r. ⌜ (held ≤ r) × (r ≤ length (now (buffer .entry))) ⌝ }
@@ -129,7 +129,8 @@ fn refill(buffer: &mut [u8], held: usize) -> usize
     held + io::count(got, room)
 }
 
-// What one read leaves to the next: the tally, and how many bytes of a line whose newline has not come yet stand in the buffer.
+// What one read leaves to the next: the tally, and how many bytes of a line whose newline has not come yet are in the
+// buffer.
 struct Carried {
     tally: Tally,
     held: usize,
@@ -159,7 +160,8 @@ fn finished(c: Carried) -> Tally {
     counted.with_failure(Verdict::Malformed)
 }
 
-// A proved loop has to end, and nothing says that the input does. So the loop counts its turns down, from a number that no run uses up.
+// A proved loop has to end, and nothing says that the input does. So the loop counts its turns down, from a number that
+// no run uses up.
 fn replay_input(buffer: &mut [u8]) -> Tally {
     let mut carried = Carried {
         tally: report::nothing_yet(),

@@ -15,11 +15,11 @@ const WIDE_DIGITS: usize = 1;
 
 const VALUE_DIGITS: usize = 16;
 
-// What may stand at each offset, in the letters of `columns::has_form`.
+// What may be at each offset, in the letters of `columns::has_form`.
 const FORM: [u8; LINE_BYTES] = *b"b hhhhhhhhhhhhhhhh hhhhhhhh hhhhhhhh";
 
-// A word at an address under a width flag, and the smallest word that the Rust reads in the same way. All of it is 0 where the line
-// is malformed.
+// A word at an address under a width flag, and the smallest word that the Rust reads in the same way. All of it is 0
+// where the line is malformed.
 pub(crate) struct Question {
     pub(crate) good: bool,
     pub(crate) wide: bool,

@@ -1,6 +1,7 @@
-// Lists a section file from standard input on standard output. How a file is checked and what a line is are matters of the libraries
-// `section` and `listing`; here is only what stands around the lines. A write that fails ends the program. Stands on these two and the kit's `io`.
-use listing::View;
+// Lists a section file from standard input on standard output. How a file is checked and what a line is are matters of
+// the libraries `section`, `body` and `pages`; here is only what is around the lines. A write that fails ends the
+// program.
+use body::View;
 
 const INPUT: i32 = 0;
 
@@ -11,9 +12,6 @@ const FULL: usize = 65536;
 
 // The bytes of a page.
 const PAGE: usize = 4096;
-
-// The bytes of a word.
-const WORD: usize = 4;
 
 fn say(text: &[u8]) -> bool {
     io::write_all(OUTPUT, text)
@@ -37,11 +35,11 @@ fn say_total(words: usize, refused: usize) -> bool {
 
 // The lines of a body, page by page. Answers whether all were written.
 fn say_lines(body: &[u8], v: View) -> bool {
-    let words = body.len() / WORD;
+    let words = body::count(body);
     let mut page = [b' '; PAGE];
     let mut n = 0;
     while n < words {
-        let p = listing::page(body, v, n, &mut page, 0);
+        let p = pages::page(body, v, n, &mut page, 0);
         let bytes = p.bytes;
         if !say(&page[..bytes]) {
             return false;
@@ -51,14 +49,8 @@ fn say_lines(body: &[u8], v: View) -> bool {
     true
 }
 
-// A flag is on if its bit is, whatever the others are.
 fn view(file: &[u8], n: usize) -> View {
-    let flags = section::flags(file);
-    View {
-        va: section::address(file, n),
-        big_endian: flags / section::BIG_ENDIAN % 2 == 1,
-        bits64: flags / section::WIDE % 2 == 1,
-    }
+    body::view_of(section::address(file, n), section::flags(file))
 }
 
 // All sections of a good file, and how many words they have.
@@ -70,7 +62,7 @@ fn list(file: &[u8]) -> bool {
     while n < count {
         let body = section::body(file, n);
         let v = view(file, n);
-        let many = body.len() / WORD;
+        let many = body::count(body);
         if !say_section(n, many) {
             return false;
         }
@@ -78,7 +70,7 @@ fn list(file: &[u8]) -> bool {
             return false;
         }
         words += many;
-        refused += listing::refused(body, v);
+        refused += body::refusals(body, v);
         n += 1;
     }
     say_total(words, refused)
@@ -88,7 +80,7 @@ fn main() {
     let mut file = [0; 65536];
     let n = io::read_full(INPUT, &mut file);
     if n == FULL {
-        say_refused(section::BAD_HEADER);
+        say_refused(refusal::BAD_HEADER);
         return;
     }
     let number = section::check(&file[..n]);

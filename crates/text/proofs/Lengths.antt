@@ -1,9 +1,9 @@
 -- How long the texts are at most.
--- Assumes nothing.
 use mathlib.Core.Path.{_≡_, refl}
 use mathlib.Core.Bool.{Bool, true, false, cond}
 use mathlib.Core.List.{List, [], _∷_, _++_}
-use Prim.Native.Nat.{ℕ, zero, suc, _*_, _/_, _%_, _^_, _≤_, _<_}
+use Prim.Native.Nat.{ℕ, zero, suc, _/_, _%_, _^_, _≤_, _<_}
+use native.Mathlib.Nat.{div-lt-iff-lt-mul, pow-zero, pow-suc}
 use native.Mathlib.Omega.{arith}
 use borrow.Author.Tests.{eq-eqb}
 use lib.Dec.{eqb}
@@ -28,21 +28,19 @@ pub numeral-most : (base n : ℕ) → length (numeralOf base n) ≤ 20
 unfolding numeralOf
 numeral-most base n = simp length-append (omega (arith, last-most base 19 (n / base)))
 
--- k decimal digits hold a number below 10 ^ k
-abbrev room : ℕ → ℕ
-room zero = 1
-room (suc k) = 10 * room k
+-- k digits hold a number below base ^ k
+module _ (base : ℕ) (some : 0 < base) where
+  last-short : (k f n : ℕ) → n < base ^ k → length (lastOf base f n) ≤ k
+  unfolding lastOf
+  last-short k zero n h = omega arith
+  last-short zero (suc f) n h = rw (eq-eqb n 0 (omega (arith, pow-zero base))) (omega arith)
+  last-short (suc k) (suc f) n h =
+      let less : n / base < base ^ k = div-lt-iff-lt-mul some .1 (rw pow-suc at h) in
+      cond-most (eqb n 0) (lastOf base f (n / base)) (glyphOf (n % base)) k (λ e. last-short k f (n / base) less)
 
-last-short : (k f n : ℕ) → n < room k → length (lastOf 10 f n) ≤ k
-unfolding lastOf
-last-short k zero n h = omega arith
-last-short zero (suc f) n h = rw (eq-eqb n 0 (omega arith)) (omega arith)
-last-short (suc k) (suc f) n h = cond-most (eqb n 0) (lastOf 10 f (n / 10)) (glyphOf (n % 10)) k (λ e. last-short k f (n / 10) (omega arith))
-
--- nineteen of them hold how far a signed number of 64 bits is from 0
-numeral-short : (n : ℕ) → n ≤ 2 ^ 63 → length (numeralOf 10 n) ≤ 19
-unfolding numeralOf
-numeral-short n h = simp length-append (omega (arith, last-short 18 19 (n / 10) (omega arith)))
+  numeral-short : (k n : ℕ) → n / base < base ^ k → length (numeralOf base n) ≤ suc k
+  unfolding numeralOf
+  numeral-short k n h = simp length-append (omega (arith, last-short k 19 (n / base) h))
 
 pub decimal-most : (z : ℤ) → length (decimalOf z) ≤ 21
 unfolding decimalOf
@@ -52,11 +50,17 @@ decimal-most (negsuc n) = omega (arith, numeral-most 10 (suc n))
 pub decimal-short : (z : ℤ) → natAbs z ≤ 2 ^ 63 → length (decimalOf z) ≤ 20
 unfolding decimalOf
 decimal-short (pos n) h = numeral-most 10 n
-decimal-short (negsuc n) h = omega (arith, numeral-short (suc n) h)
+-- nineteen digits hold how far it is from 0
+decimal-short (negsuc n) h = omega (arith, numeral-short 10 (omega arith) 18 (suc n) (omega arith))
 
 pub address-most : (a : ℕ) → length (addressOf a) ≤ 22
 unfolding addressOf
 address-most a = omega (arith, numeral-most 16 a)
+
+-- sixteen digits hold an address
+pub address-short : (a : ℕ) → a < 2 ^ 64 → length (addressOf a) ≤ 18
+unfolding addressOf
+address-short a h = omega (arith, numeral-short 16 (omega arith) 15 a (omega arith))
 
 -- ── columns and names ──
 

@@ -1,23 +1,51 @@
--- Numbers and names as text, in the bytes of ASCII.
--- Assumes nothing.
+-- Texts, numbers and names in the bytes of ASCII.
 use Prim.Native.Nat.{ℕ, zero, suc, _+_, _/_, _%_}
-use mathlib.Core.Bool.{cond}
+use Prim.Native.Char.{code}
+use Prim.Native.String.{String, len, charAt}
+use mathlib.Core.Bool.{Bool, true, false, cond, _&&_}
 use mathlib.Core.List.{List, [], _∷_, _++_}
 use lib.Dec.{ltb, eqb}
 use lib.IntN.{ℤ, pos, negsuc}
 
+-- ── texts ──
+
+-- the letter of a text at a place, and 0 past its end
+unfoldable pub letter : String → ℕ → ℕ
+letter s i = cond (ltb i (len s)) (code (charAt s i)) 0
+
+-- n of its letters, from a place on
+unfoldable pub letters : ℕ → ℕ → String → List ℕ
+letters zero i s = []
+letters (suc n) i s = letter s i ∷ letters n (suc i) s
+
+-- the text
+unfoldable pub textOf : String → List ℕ
+textOf s = letters (len s) 0 s
+
+-- the text, then zeros: n bytes in all
+unfoldable pub padded : ℕ → String → List ℕ
+padded n s = letters n 0 s
+
+-- are the bytes the same?
+unfoldable pub same : List ℕ → List ℕ → Bool
+same [] [] = true
+same [] (y ∷ ys) = false
+same (x ∷ xs) [] = false
+same (x ∷ xs) (y ∷ ys) = eqb x y && same xs ys
+
+-- ── numerals ──
+
 -- a digit below sixteen: 0 to 9, a to f
 abbrev pub glyphOf : ℕ → ℕ
 glyphOf d = cond (ltb d 10) (48 + d) (87 + d)
-
--- ── numerals ──
 
 -- the last k digits of n in a base, without leading zeros: none for 0
 unfoldable pub lastOf : ℕ → ℕ → ℕ → List ℕ
 lastOf base zero n = []
 lastOf base (suc k) n = cond (eqb n 0) [] (lastOf base k (n / base) ++ (glyphOf (n % base) ∷ []))
 
--- n in a base without leading zeros; 0 is one digit. Twenty digits hold any number below 2^64 in the bases ten and sixteen
+-- n in a base without leading zeros; 0 is one digit. Twenty digits are enough for any number below 2^64 in the bases
+-- ten and sixteen
 unfoldable pub numeralOf : ℕ → ℕ → List ℕ
 numeralOf base n = lastOf base 19 (n / base) ++ (glyphOf (n % base) ∷ [])
 

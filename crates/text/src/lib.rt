@@ -1,5 +1,6 @@
-// Numbers and names as text, into bytes that a caller lends. Stands on `buffers`.
-// Every function takes any place: the text is written where it has room, else nothing is; its length is the answer either way.
+// Numbers and names as text, into bytes that a caller lends. Depends on `buffers`.
+// Every function takes any place: the text is written where it has room, else nothing is; its length is the answer
+// either way.
 ghost use mathlib.Core.Path.{_≡_};
 ghost use Prim.Native.Nat.{_-_, _≤_, _<_};
 ghost use lib.ListN.{length, drop};
@@ -33,7 +34,8 @@ fn glyph(d: u64) -> u8
 // The numeral of n, at the end of b; answers where it starts.
 fn spell(n: u64, base: u64, b: &mut [u8; ROOM]) -> usize
     requires { ⌜ (1 < base) × (base ≤ 16) × (length (now b) ≡ 22) ⌝ }
-    ensures { λ r. ⌜ (2 ≤ r) × (r ≤ 22) × (length (now (b .exit)) ≡ 22) × (drop r (now (b .exit)) ≡ numeralOf base n) ⌝ }
+    ensures { λ r. ⌜ (2 ≤ r) × (r ≤ 22) × (length (now (b .exit)) ≡ 22) ×
+        (drop r (now (b .exit)) ≡ numeralOf base n) ⌝ }
 {
     let mut i = ROOM - 1;
     let mut rest = n / base;
@@ -108,7 +110,7 @@ const COLUMNS: usize = 16;
 const HALF: usize = 8;
 
 // The hex digits of n from column `from` of sixteen on.
-fn columns(n: u64, from: usize) -> [u8; COLUMNS]
+fn hex_digits(n: u64, from: usize) -> [u8; COLUMNS]
     requires { ⌜ from ≤ 16 ⌝ }
     ensures { λ r. ⌜ drop from r ≡ hexOf (16 - from) n ⌝ }
 {
@@ -127,7 +129,7 @@ fn columns(n: u64, from: usize) -> [u8; COLUMNS]
 pub fn hex16(n: u64, out: &mut [u8], at: usize)
     ensures { λ _. ⌜ now (out .exit) ≡ placed at (hexOf 16 n) (now (out .entry)) ⌝ }
 {
-    let b = columns(n, 0);
+    let b = hex_digits(n, 0);
     buffers::put(&b, out, at);
 }
 
@@ -135,14 +137,14 @@ pub fn hex16(n: u64, out: &mut [u8], at: usize)
 pub fn hex8(n: u32, out: &mut [u8], at: usize)
     ensures { λ _. ⌜ now (out .exit) ≡ placed at (hexOf 8 n) (now (out .entry)) ⌝ }
 {
-    let b = columns(n as u64, HALF);
+    let b = hex_digits(n as u64, HALF);
     buffers::put(&b[HALF..], out, at);
 }
 
 // ── names ──
 
 // How many bytes stand before the first zero.
-fn letters(b: &[u8]) -> usize
+fn name_length(b: &[u8]) -> usize
     ensures { λ r. ⌜ r ≡ length (beforeZero (now (b .entry))) ⌝ }
 {
     let mut n = 0;
@@ -160,7 +162,7 @@ pub fn name(b: &[u8], out: &mut [u8], at: usize) -> usize
     ensures { λ r. ⌜ r ≡ length (beforeZero (now (b .entry))) ⌝ }
     ensures { λ _. ⌜ now (out .exit) ≡ placed at (beforeZero (now (b .entry))) (now (out .entry)) ⌝ }
 {
-    let n = letters(b);
+    let n = name_length(b);
     buffers::put(&b[..n], out, at);
     n
 }

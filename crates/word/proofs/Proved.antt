@@ -1,5 +1,4 @@
 -- What specs/Facts.antt states, proved.
--- Assumes nothing.
 use mathlib.Core.Path.{refl}
 use Rattle.word.specs.Numbers.{signed, upper, sizeOf}
 use Rattle.word.specs.Facts.{Bijection, Runs, TwosComplement, Ends}

@@ -1,6 +1,5 @@
 -- Signed numbers: n bits as two's complement, and multiples of an immediate, 64 bits and a size as the code works them out; what fits
 -- 64 bits.
--- Assumes nothing.
 use Prim.Native.Nat.{ℕ, zero, suc, _+_, _*_, _-_, _/_, _%_, _^_, _≤_, _<_}
 use mathlib.Core.Path.{_≡_, refl, sym, _∙_, ap, subst}
 use mathlib.Core.Bool.{Bool, true, false, cond}

@@ -1,20 +1,19 @@
 -- The numbers that the manual works out of a word's fields.
--- Assumes nothing.
 use Prim.Native.Nat.{ℕ, _+_, _*_, _-_, _/_, _%_, _^_}
-use mathlib.Core.Bool.{cond}
+use mathlib.Core.Bool.{Bool, true, false, cond}
 use mathlib.Core.List.{List}
 use lib.Dec.{ltb}
 use lib.IntN.{ℤ, pos, negsuc, _+ℤ_, _-ℤ_, _*ℤ_}
 use lib.ListN.{getD}
-use Rattle.word.specs.Word.{Fields, rs, rt, rd, sa, fn}
+use Rattle.word.specs.Word.{Fields, rs, rt, rd, sa, funct}
 
 -- the 16-bit immediate, bits 15..0: rd, sa and funct side by side
 unfoldable pub imm : Fields → ℕ
-imm f = f rd * 2 ^ 11 + f sa * 2 ^ 6 + f fn
+imm f = f rd * 2 ^ 11 + f sa * 2 ^ 6 + f funct
 
 -- the 26-bit index of a jump, bits 25..0: all fields but op
 unfoldable pub index : Fields → ℕ
-index f = f rs * 2 ^ 21 + f rt * 2 ^ 16 + f rd * 2 ^ 11 + f sa * 2 ^ 6 + f fn
+index f = f rs * 2 ^ 21 + f rt * 2 ^ 16 + f rd * 2 ^ 11 + f sa * 2 ^ 6 + f funct
 
 -- n bits as a two's complement number: u, or u - 2^n if the top bit is set
 unfoldable pub signed : ℕ → ℕ → ℤ
@@ -47,3 +46,8 @@ littleEndian b = getD b 0 0 + getD b 1 0 * 2 ^ 8 + getD b 2 0 * 2 ^ 16 + getD b 
 
 abbrev pub bigEndian : List ℕ → ℕ
 bigEndian b = getD b 3 0 + getD b 2 0 * 2 ^ 8 + getD b 1 0 * 2 ^ 16 + getD b 0 0 * 2 ^ 24
+
+-- the first byte is the highest, or the lowest
+abbrev pub wordIn : Bool → List ℕ → ℕ
+wordIn true b = bigEndian b
+wordIn false b = littleEndian b

@@ -1,10 +1,11 @@
 // The fields of a word, and the numbers worked out of them: the `let`s at the head of the source's `decode_word`.
-// Stands on nothing but std.
+// Depends on nothing but std.
 ghost use mathlib.Core.Path.{_≡_};
 ghost use Prim.Native.Nat.{_*_, _<_};
 ghost use lib.IntN.{pos};
-ghost use Rattle.word.specs.Word.{fieldsOf, op, rs, rt, rd, sa, fn};
-ghost use Rattle.word.specs.Numbers.{imm, index, signed, modulo64, branchTo, jumpTo, upper, sizeOf, littleEndian, bigEndian};
+ghost use Rattle.word.specs.Word.{fieldsOf, op, rs, rt, rd, sa, funct};
+ghost use Rattle.word.specs.Numbers.{imm, index, signed, modulo64, branchTo, jumpTo, upper, sizeOf, littleEndian};
+ghost use Rattle.word.specs.Numbers.{bigEndian, wordIn};
 
 // How many values an immediate and an index have.
 const IMMEDIATES: u32 = 0x1_0000;
@@ -14,10 +15,10 @@ const INDEXES: u32 = 0x400_0000;
 // An immediate from here on has its top bit set: it is negative.
 const TOP_BIT: u32 = 0x8000;
 
-// A jump stays within a region of so many bytes.
+// A jump stays within a region of this many bytes.
 const REGION: u64 = 0x1000_0000;
 
-// Sixteen bits wrap there, and `lui` shifts by so much.
+// The number of values of 16 bits, by which `lui` multiplies.
 const TWO_TO_16: i64 = 0x1_0000;
 
 // -1 as 64 bits.
@@ -54,7 +55,7 @@ pub fn sa(w: u32) -> u8
 }
 
 pub fn funct(w: u32) -> u8
-    ensures { λ r. ⌜ r ≡ fieldsOf w fn ⌝ }
+    ensures { λ r. ⌜ r ≡ fieldsOf w funct ⌝ }
 {
     (w % 64) as u8
 }
@@ -142,8 +143,8 @@ pub fn ins_size(w: u32) -> i64
     ((last + 1) as i64) - (first as i64)
 }
 
-// A byte in four bytes' room.
-fn wide(x: u8) -> u32
+// A byte as a number of 32 bits.
+fn widened(x: u8) -> u32
     ensures { λ r. ⌜ (r ≡ x) × (r < 256) ⌝ }
 {
     x as u32
@@ -152,11 +153,22 @@ fn wide(x: u8) -> u32
 pub fn from_le_bytes(b: [u8; 4]) -> u32
     ensures { λ r. ⌜ r ≡ littleEndian b ⌝ }
 {
-    wide(b[0]) + wide(b[1]) * 0x100 + wide(b[2]) * 0x1_0000 + wide(b[3]) * 0x100_0000
+    widened(b[0]) + widened(b[1]) * 0x100 + widened(b[2]) * 0x1_0000 + widened(b[3]) * 0x100_0000
 }
 
 pub fn from_be_bytes(b: [u8; 4]) -> u32
     ensures { λ r. ⌜ r ≡ bigEndian b ⌝ }
 {
-    wide(b[3]) + wide(b[2]) * 0x100 + wide(b[1]) * 0x1_0000 + wide(b[0]) * 0x100_0000
+    widened(b[3]) + widened(b[2]) * 0x100 + widened(b[1]) * 0x1_0000 + widened(b[0]) * 0x100_0000
+}
+
+// The word that four bytes are, in the order that the flag says.
+pub fn from_bytes(b: [u8; 4], big_endian: bool) -> u32
+    ensures { λ r. ⌜ r ≡ wordIn «big_endian» b ⌝ }
+{
+    if big_endian {
+        from_be_bytes(b)
+    } else {
+        from_le_bytes(b)
+    }
 }

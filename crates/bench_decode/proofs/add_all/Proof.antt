@@ -1,5 +1,4 @@
 -- `bench_decode::add_all` is safe and ends: the turns run out. Nothing has to hold from turn to turn.
--- Assumes nothing.
 use native.Mathlib.Omega.{arith}
 use Rattle.bench_decode.proofs.add_all.Statement.{statement}
 use Rattle.bench_decode.proofs.add_all.Tie as tie
@@ -11,9 +10,7 @@ abbrev μ-loop : tie.MeasureT-loop
 μ-loop s₀ turns₀ s turns = turns
 
 pub add-all-spec : {M : Type 1} → statement M
-add-all-spec =
-    tie.close
-    (tie.spec
+add-all-spec = tie.close (tie.spec
     Inv-loop
     μ-loop
     (λ c. tt)

@@ -1,5 +1,4 @@
 -- What a reader of a number answers where the bytes are there.
--- Assumes nothing.
 use Prim.Native.Nat.{ℕ, zero, suc, _*_, _<_}
 use mathlib.Core.Path.{_≡_}
 use mathlib.Core.List.{List}

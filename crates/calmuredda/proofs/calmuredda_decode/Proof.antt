@@ -1,5 +1,3 @@
--- `calmuredda::calmuredda_decode` meets its contract.
--- Assumes nothing.
 use borrow.Author.Needs.{needs}
 use mathlib.Core.Path.{ap, _∙_}
 use lib.ListN.{length}
@@ -16,10 +14,6 @@ returns c =
     (c .before .before .pack .ensures .0 ∙ ap (λ (d : Decoded). packNumber d (length l)) e, c .before .before .pack .ensures .1 ∙ ap (λ (d : Decoded). packed d l) e)
 
 pub calmuredda-decode-spec : {M : Type 1} → statement M
-calmuredda-decode-spec =
-    tie.close
-    (tie.spec
-    (λ c κs. search needs)
-    (λ c κs. search needs)
-    (λ c. search needs)
+calmuredda-decode-spec = tie.close (tie.spec
+    (λ c κs. search needs) (λ c κs. search needs) (λ c. search needs)
     returns)

@@ -1,5 +1,3 @@
--- `calmuredda::calmuredda_encode` meets its contract.
--- Assumes nothing.
 use borrow.Author.Needs.{needs}
 use mathlib.Core.Path.{refl, sym, _∙_, subst}
 use Rattle.classes.proofs.Accepts.{accepted-as}
@@ -27,12 +25,8 @@ returns-2 c =
     subst (EncodesRecord l va wide) (sym (c .both2 .ensures)) (unpacked-to l va wide (d .insn) (c .before .encode .result) u (c .before .encode .ensures))
 
 pub calmuredda-encode-spec : {M : Type 1} → statement M
-calmuredda-encode-spec =
-    tie.close
-    (tie.spec
-    (λ c κs. search needs)
-    (λ c κs. search needs)
+calmuredda-encode-spec = tie.close (tie.spec
+    (λ c κs. search needs) (λ c κs. search needs)
     returns
-    (λ c κs. search needs)
-    (λ c κs. search needs)
+    (λ c κs. search needs) (λ c κs. search needs)
     returns-2)

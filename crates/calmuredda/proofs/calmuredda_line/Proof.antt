@@ -1,5 +1,3 @@
--- `calmuredda::calmuredda_line` meets its contract.
--- Assumes nothing.
 use borrow.Author.Needs.{needs}
 use mathlib.Core.Path.{_≡_, sym, ap, _∙_}
 use mathlib.Core.List.{List, []}
@@ -10,7 +8,7 @@ use Rattle.buffers.specs.Bytes.{over}
 use Rattle.reading.specs.declared.Decoded.{Decoded}
 use Rattle.record.specs.Unpacked.{unpacked}
 use Rattle.line.specs.declared.Printed.{Printed}
-use Rattle.line.specs.Line.{printNumber, printed, printedOf}
+use Rattle.line.specs.Line.{plain, printNumber, printed, printedOf}
 use Rattle.calmuredda.specs.Boundary.{lineNumber, lineBytes}
 use Rattle.calmuredda.proofs.calmuredda_line.Statement.{statement}
 use Rattle.calmuredda.proofs.calmuredda_line.Tie as tie
@@ -20,7 +18,8 @@ none : (l : List ℕ) (room : ℕ) → ¬ (unpacked l .number ≡ 0) → (lineNu
 none l room h = (rw (ne-eqb _ _ h), rw (ne-eqb _ _ h))
 
 -- what is one has that of its reading
-some : (l : List ℕ) (room : ℕ) → unpacked l .number ≡ 0 → (lineNumber l room ≡ printNumber (unpacked l .insn) room) × (lineBytes l room ≡ printed (unpacked l .insn) room)
+some : (l : List ℕ) (room : ℕ) → unpacked l .number ≡ 0 →
+    (lineNumber l room ≡ printNumber plain (unpacked l .insn) room) × (lineBytes l room ≡ printed plain (unpacked l .insn) room)
 some l room h = (rw (eq-eqb _ _ h), rw (eq-eqb _ _ h))
 
 returns : tie.Need-returns
@@ -34,21 +33,21 @@ returns c =
 
 returns-2 : tie.Need-returns-2
 returns-2 c =
-    let a = c .before .before .before .before .before .before .before .before .before .before .args in
+    let tested = c .before .before .before .before .before in
+    let a = tested .before .before .before .before .before .args in
     let l = a .«record» .now in
     let d = a .out .now in
-    let u = c .before .before .before .before .before .before .before .unpack .ensures in
-    let s = some l (length d) (sym (ap (λ (x : Decoded). x .number) u) ∙ c .before .before .before .before .before .if1 .left) in
+    let u = tested .before .before .unpack .ensures in
+    let s = some l (length d) (sym (ap (λ (x : Decoded). x .number) u) ∙ tested .if1 .left) in
     let p = c .before .before .print .ensures in
-    let e = p .0 ∙ ap (λ (x : Decoded). printedOf (x .insn) (length d)) u in (
+    let e = p .0 ∙ ap (λ (x : Decoded). printedOf plain (x .insn) (length d)) u in (
       ap (λ (x : Printed). x .number) e ∙ sym (s .0),
       (
         ap (λ (x : Printed). x .length) e ∙ ap length (sym (s .1)),
-        p .1 .0 ∙ ap (λ (x : Decoded). over (printed (x .insn) (length d)) d) u ∙ ap (λ (b : List ℕ). over b d) (sym (s .1)),
+        p .1 .0 ∙ ap (λ (x : Decoded). over (printed plain (x .insn) (length d)) d) u
+            ∙ ap (λ (b : List ℕ). over b d) (sym (s .1)),
       ),
     )
 
 pub calmuredda-line-spec : {M : Type 1} → statement M
-calmuredda-line-spec =
-    tie.close
-    (tie.spec (λ c κs. search needs) returns (λ c κs. search needs) (λ c. search needs) returns-2)
+calmuredda-line-spec = tie.close (tie.spec (λ c κs. search needs) returns (λ c κs. search needs) (λ c. search needs) returns-2)

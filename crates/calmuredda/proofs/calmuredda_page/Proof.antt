@@ -1,12 +1,11 @@
--- `calmuredda::calmuredda_page` meets its contract.
--- Assumes nothing.
 use borrow.Author.Needs.{needs}
 use mathlib.Core.Path.{ap, _∙_}
 use lib.ListN.{length}
 use Rattle.buffers.specs.Bytes.{overAt}
-use Rattle.listing.specs.declared.View.{View}
-use Rattle.listing.specs.declared.Paged.{Paged}
-use Rattle.listing.specs.Page.{pageOf, pageBytes}
+use Rattle.line.specs.Line.{plain}
+use Rattle.body.specs.declared.View.{View}
+use Rattle.pages.specs.declared.Paged.{Paged}
+use Rattle.pages.specs.Page.{pageOf, pageBytes}
 use Rattle.calmuredda.proofs.calmuredda_page.Statement.{statement}
 use Rattle.calmuredda.proofs.calmuredda_page.Tie as tie
 
@@ -15,14 +14,14 @@ returns c =
     let a = c .before .before .before .before .before .before .before .args in
     let d = a .out .now in
     let p = c .before .before .page .ensures in
-    let v = c .before .before .before .before .view .ensures in
-    let e = p .0 ∙ ap (λ (x : View). pageOf x (a .body .now) (a .index) (length d) (a .place)) v in (
+    let v = c .before .before .before .before .view-of .ensures in
+    let e = p .0 ∙ ap (λ (x : View). pageOf plain x (a .body .now) (a .index) (length d) (a .place)) v in (
       ap (λ (b : Paged). b .number) e,
       (
         ap (λ (b : Paged). b .words) e,
         (
           ap (λ (b : Paged). b .bytes) e,
-          p .1 ∙ ap (λ (x : View). overAt (a .place) (pageBytes x (a .body .now) (a .index) (length d) (a .place)) d) v,
+          p .1 ∙ ap (λ (x : View). overAt (a .place) (pageBytes plain x (a .body .now) (a .index) (length d) (a .place)) d) v,
         ),
       ),
     )

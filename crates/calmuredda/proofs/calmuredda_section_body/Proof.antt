@@ -1,5 +1,3 @@
--- `calmuredda::calmuredda_section_body` meets its contract.
--- Assumes nothing.
 use borrow.Author.Needs.{needs}
 use mathlib.Core.Path.{ap, _∙_}
 use lib.ListN.{length}

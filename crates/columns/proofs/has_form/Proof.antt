@@ -1,5 +1,4 @@
 -- `columns::has_form` meets its contract: the letters that are left decide.
--- Assumes nothing.
 use borrow.Author.Needs.{needs}
 use borrow.Author.Tests.{not-true, not-false}
 use mathlib.Core.Path.{_≡_, refl, sym, _∙_}
@@ -21,20 +20,25 @@ abbrev μ-loop : tie.MeasureT-loop
 -- the line ends first
 returns : tie.Need-returns Inv-loop μ-loop
 returns c =
-    let l = c .before .before .loop in
-    let a = c .before .before .before .before .before .args in
-    sym (short (a .form .now) (a .line .now) (l .i) (c .before .loop-test .taken) (c .if1 .taken)) ∙ l .inv
+    let t = c .before in
+    let l = t .before in
+    let a = l .before .before .before .args in
+    sym (short (a .form .now) (a .line .now) (l .loop .i) (t .loop-test .taken) (c .if1 .taken)) ∙ l .loop .inv
 
 -- what the letters that are left say, once this one has said b
 turned : (c : tie.After-is-allowed Inv-loop μ-loop) (b : Bool) → c .is-allowed .result ≡ b →
-    let l = c .before .before .before .before .before in
+    let there = c .before .before .before in
+    let l = there .before .before in
     let a = l .before .before .before .args in
-    (b && hasForm (drop (suc (l .loop .i)) (a .form .now)) (drop (suc (l .loop .i)) (a .line .now))) ≡ hasForm (a .form .now) (a .line .now)
+    (b && hasForm (drop (suc (l .loop .i)) (a .form .now)) (drop (suc (l .loop .i)) (a .line .now))) ≡
+    hasForm (a .form .now) (a .line .now)
 turned c b e =
-    let t = c .before .before .before .before in
-    let l = t .before .loop in
-    let a = t .before .before .before .before .args in
-    rw (← e, c .is-allowed .ensures) (sym (letter (a .form .now) (a .line .now) (l .i) (t .loop-test .taken) (c .before .before .before .if1 .left)) ∙ l .inv)
+    let there = c .before .before .before in
+    let t = there .before in
+    let l = t .before in
+    let a = l .before .before .before .args in
+    rw (← e, c .is-allowed .ensures)
+    (sym (letter (a .form .now) (a .line .now) (l .loop .i) (t .loop-test .taken) (there .if1 .left)) ∙ l .loop .inv)
 
 returns-2 : tie.Need-returns-2 Inv-loop μ-loop
 returns-2 c = turned (c .before) false (not-true _ (c .if2 .taken))
@@ -45,23 +49,18 @@ loop-again c = rw add-one (turned (c .before) true (not-false _ (c .if2 .left)))
 -- the form ends
 returns-3 : tie.Need-returns-3 Inv-loop μ-loop
 returns-3 c =
-    let l = c .before .loop in
-    let a = c .before .before .before .before .args in
-    sym (ends (a .form .now) (a .line .now) (l .i) (c .loop-test .left)) ∙ l .inv
+    let l = c .before in
+    let a = l .before .before .before .args in
+    sym (ends (a .form .now) (a .line .now) (l .loop .i) (c .loop-test .left)) ∙ l .loop .inv
 
 pub has-form-spec : {M : Type 1} → statement M
-has-form-spec =
-    tie.close
-    (tie.spec
+has-form-spec = tie.close (tie.spec
     Inv-loop
     μ-loop
     (λ c. refl)
     returns
-    (λ c. search needs)
-    (λ c. search needs)
-    (λ c κs. search needs)
+    (λ c. search needs) (λ c. search needs) (λ c κs. search needs)
     returns-2
-    (λ c. search needs)
-    (λ c. search needs)
+    (λ c. search needs) (λ c. search needs)
     loop-again
     returns-3)

@@ -1,5 +1,4 @@
 -- `columns::line_end` meets its contract: the line ends where it does from the place that is reached.
--- Assumes nothing.
 use borrow.Author.Needs.{needs}
 use mathlib.Core.Path.{_≡_, refl, sym, _∙_}
 use Prim.Native.Nat.{_-_}
@@ -33,15 +32,12 @@ returns-2 c =
     sym (end-none (l .i) (c .before .before .args .s .now) (c .loop-test .left)) ∙ l .inv
 
 pub line-end-spec : {M : Type 1} → statement M
-line-end-spec =
-    tie.close
-    (tie.spec
+line-end-spec = tie.close (tie.spec
     Inv-loop
     μ-loop
     (λ c. refl)
     (λ c. search needs)
     returns
-    (λ c. search needs)
-    (λ c. search needs)
+    (λ c. search needs) (λ c. search needs)
     loop-again
     returns-2)

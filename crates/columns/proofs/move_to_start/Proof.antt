@@ -1,5 +1,4 @@
 -- `columns::move_to_start` meets its contract: after i turns the first i bytes of the part are moved.
--- Assumes nothing.
 use borrow.Author.Needs.{needs}
 use mathlib.Core.Path.{_≡_, refl, sym, _∙_}
 use Prim.Native.Nat.{_-_, _≤_}
@@ -19,32 +18,28 @@ abbrev μ-loop : tie.MeasureT-loop
 
 loop-again : tie.Need-loop-again Inv-loop μ-loop
 loop-again c =
-    let l = c .before .before .loop in
-    let a = c .before .before .before .before .before .args in
+    let at-loop = c .before .before in
+    let l = at-loop .loop in
+    let a = at-loop .before .before .before .args in
     let long = part-long (a .from) (a .to) (a .s .now) in
     (omega arith, one-moved (a .from) (a .to) (l .i) (a .s .now) (omega arith) (l .inv .1), simp length-set (l .inv .2))
 
 returns : tie.Need-returns Inv-loop μ-loop
 returns c =
-    let l = c .before .loop in
-    let a = c .before .before .before .before .args in
+    let at-loop = c .before in
+    let l = at-loop .loop in
+    let a = at-loop .before .before .before .args in
     let long = part-long (a .from) (a .to) (a .s .now) in
     let e : l .i ≡ length (partOf (a .from) (a .to) (a .s .now)) = omega arith in
     (c .before .before .part-size .ensures ∙ sym long, l .inv .1 ∙ rw (e, take-length))
 
 pub move-to-start-spec : {M : Type 1} → statement M
-move-to-start-spec =
-    tie.close
-    (tie.spec
+move-to-start-spec = tie.close (tie.spec
     Inv-loop
     μ-loop
     (λ c κs. search needs)
     (λ c. (omega arith, refl, refl))
-    (λ c. omega arith)
-    (λ c. omega arith)
-    (λ c. omega arith)
-    (λ c. omega arith)
-    (λ c. omega arith)
+    (λ c. omega arith) (λ c. omega arith) (λ c. omega arith) (λ c. omega arith) (λ c. omega arith)
     loop-again
     (λ c. c .before .loop .inv .2)
     returns)

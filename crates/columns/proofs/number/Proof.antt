@@ -1,5 +1,4 @@
 -- `columns::number` meets its contract: after i turns the value is that of the first i digits.
--- Assumes nothing.
 use borrow.Author.Needs.{needs}
 use mathlib.Core.Path.{_≡_, sym, _∙_}
 use Prim.Native.Nat.{_+_, _*_, _-_, _^_, _≤_, _<_}
@@ -22,7 +21,8 @@ below : (c : tie.In-loop Inv-loop μ-loop) → 16 * c .before .loop .value + 15 
 below c =
     let l = c .before .loop in
     let a = c .before .before .before .args in
-    room (l .i) (l .value) 15 (omega arith) (rw (l .inv .1) (part-below (a .line .now) (a .at) (l .i) (omega arith))) (omega arith)
+    room (l .i) (l .value) 15 (omega arith) (rw (l .inv .1) (part-below (a .line .now) (a .at) (l .i) (omega arith)))
+    (omega arith)
 
 mul-value : tie.Need-mul-value Inv-loop μ-loop
 mul-value c = omega (arith, below c)
@@ -35,9 +35,11 @@ add-value c =
 
 loop-again : tie.Need-loop-again Inv-loop μ-loop
 loop-again c =
-    let l = c .before .before .before .loop in
-    let a = c .before .before .before .before .before .args in
-    (omega arith, rw add-one (omega (arith, one-more (a .line .now) (a .at) (l .i) (omega arith), l .inv .1, c .digit .ensures)))
+    let at-loop = c .before .before .before in
+    let l = at-loop .loop in
+    let a = at-loop .before .before .args in
+    let more = one-more (a .line .now) (a .at) (l .i) (omega arith) in
+    (omega arith, rw add-one (omega (arith, more, l .inv .1, c .digit .ensures)))
 
 returns : tie.Need-returns Inv-loop μ-loop
 returns c =
@@ -46,18 +48,13 @@ returns c =
     l .inv .1 ∙ rw e
 
 pub number-spec : {M : Type 1} → statement M
-number-spec =
-    tie.close
-    (tie.spec
+number-spec = tie.close (tie.spec
     Inv-loop
     μ-loop
     (λ c. (omega arith, sym (after-none 0)))
     mul-value
-    (λ c. search needs)
-    (λ c. search needs)
-    (λ c κs. search needs)
+    (λ c. search needs) (λ c. search needs) (λ c κs. search needs)
     add-value
-    (λ c. search needs)
-    (λ c. search needs)
+    (λ c. search needs) (λ c. search needs)
     loop-again
     returns)

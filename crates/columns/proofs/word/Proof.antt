@@ -1,5 +1,4 @@
 -- `columns::word` meets its contract: eight digits are no more than 32 bits.
--- Assumes nothing.
 use borrow.Author.Needs.{needs}
 use native.Mathlib.Omega.{arith}
 use Rattle.columns.proofs.Numbers.{word-below}

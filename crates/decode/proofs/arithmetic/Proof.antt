@@ -1,93 +1,39 @@
 use Prim.Native.Nat.{ℕ}
-use mathlib.Core.Path.{refl, sym, _∙_, subst}
-use mathlib.Core.List.{[], _∷_}
+use mathlib.Core.Path.{refl, sym, subst}
+use mathlib.Core.List.{[]}
 use borrow.Author.Needs.{needs}
-use Rattle.word.specs.Word.{op, rs, rt, fn}
+use Rattle.word.specs.Word.{rs, rt, funct}
 use Rattle.classes.specs.Meaning.{meaning}
 use Rattle.decode.specs.Private.Groups.{NoneOf, arithmetics}
-use Rattle.decode.proofs.Facts.{_≐_, _≠_}
-use Rattle.decode.proofs.Arms.{rowBy, accepts}
+use Rattle.decode.proofs.Arms.{rowBy, taken, arm, arm-if, arm-else}
 use Rattle.decode.proofs.arithmetic.Statement.{statement}
 use Rattle.decode.proofs.arithmetic.Tie as tie
 
 pub arithmetic-spec : {M : Type 1} → statement M
 unfolding rowBy meaning
-arithmetic-spec =
-    tie.close
-    (tie.spec
-    (λ c κs. search needs)
-    (λ c κs. search needs)
-    (λ c κs. search needs)
-    (λ c κs. search needs)
+arithmetic-spec = tie.close (tie.spec
+    (λ c κs. search needs) (λ c κs. search needs) (λ c κs. search needs) (λ c κs. search needs)
     (λ c κs. (c .before .pre .0, (c .before .pre .1 .0, (subst (λ (k : ℕ). NoneOf k arithmetics) (sym (c .before .pre .1 .0)) (c .match .rest), c .before .pre .1 .1))))
-    (λ c va. accepts (op ≐ 0 ∷ fn ≐ 32 ∷ []) _ _ _ (c .before .pre .0, (c .before .pre .1 .0 ∙ c .match .keys1, tt)) refl refl)
-    (λ c va. accepts (op ≐ 0 ∷ fn ≐ 33 ∷ rt ≐ 0 ∷ []) _ _ _ (
-      c .before .before .before .pre .0,
-      (
-        c .before .before .before .pre .1 .0 ∙ c .before .before .match .keys2,
-        (sym (c .before .rt .ensures) ∙ c .if1 .taken, tt),
-      ),
-    )
-    refl refl)
-    (λ c va. accepts (op ≐ 0 ∷ fn ≐ 33 ∷ rt ≠ 0 ∷ []) _ _ _ (
-      c .before .before .before .pre .0,
-      (
-        c .before .before .before .pre .1 .0 ∙ c .before .before .match .keys2,
-        ((λ q. c .if1 .left (c .before .rt .ensures ∙ q)), tt),
-      ),
-    )
-    refl refl)
-    (λ c va. accepts (op ≐ 0 ∷ fn ≐ 34 ∷ []) _ _ _ (c .before .pre .0, (c .before .pre .1 .0 ∙ c .match .keys3, tt)) refl refl)
-    (λ c va. accepts (op ≐ 0 ∷ fn ≐ 35 ∷ rs ≐ 0 ∷ []) _ _ _ (
-      c .before .before .before .pre .0,
-      (
-        c .before .before .before .pre .1 .0 ∙ c .before .before .match .keys4,
-        (sym (c .before .rs .ensures) ∙ c .if2 .taken, tt),
-      ),
-    )
-    refl refl)
-    (λ c va. accepts (op ≐ 0 ∷ fn ≐ 35 ∷ rs ≠ 0 ∷ []) _ _ _ (
-      c .before .before .before .pre .0,
-      (
-        c .before .before .before .pre .1 .0 ∙ c .before .before .match .keys4,
-        ((λ q. c .if2 .left (c .before .rs .ensures ∙ q)), tt),
-      ),
-    )
-    refl refl)
-    (λ c va. accepts (op ≐ 0 ∷ fn ≐ 36 ∷ []) _ _ _ (c .before .pre .0, (c .before .pre .1 .0 ∙ c .match .keys5, tt)) refl refl)
-    (λ c va. accepts (op ≐ 0 ∷ fn ≐ 37 ∷ rt ≐ 0 ∷ []) _ _ _ (
-      c .before .before .before .pre .0,
-      (
-        c .before .before .before .pre .1 .0 ∙ c .before .before .match .keys6,
-        (sym (c .before .rt2 .ensures) ∙ c .if3 .taken, tt),
-      ),
-    )
-    refl refl)
-    (λ c va. accepts (op ≐ 0 ∷ fn ≐ 37 ∷ rt ≠ 0 ∷ []) _ _ _ (
-      c .before .before .before .pre .0,
-      (
-        c .before .before .before .pre .1 .0 ∙ c .before .before .match .keys6,
-        ((λ q. c .if3 .left (c .before .rt2 .ensures ∙ q)), tt),
-      ),
-    )
-    refl refl)
-    (λ c va. accepts (op ≐ 0 ∷ fn ≐ 38 ∷ []) _ _ _ (c .before .pre .0, (c .before .pre .1 .0 ∙ c .match .keys7, tt)) refl refl)
-    (λ c va. accepts (op ≐ 0 ∷ fn ≐ 39 ∷ rt ≐ 0 ∷ []) _ _ _ (
-      c .before .before .before .pre .0,
-      (
-        c .before .before .before .pre .1 .0 ∙ c .before .before .match .keys8,
-        (sym (c .before .rt3 .ensures) ∙ c .if4 .taken, tt),
-      ),
-    )
-    refl refl)
-    (λ c va. accepts (op ≐ 0 ∷ fn ≐ 39 ∷ rt ≠ 0 ∷ []) _ _ _ (
-      c .before .before .before .pre .0,
-      (
-        c .before .before .before .pre .1 .0 ∙ c .before .before .match .keys8,
-        ((λ q. c .if4 .left (c .before .rt3 .ensures ∙ q)), tt),
-      ),
-    )
-    refl refl)
-    (λ c va. accepts (op ≐ 0 ∷ fn ≐ 42 ∷ []) _ _ _ (c .before .pre .0, (c .before .pre .1 .0 ∙ c .match .keys9, tt)) refl refl)
-    (λ c va. accepts (op ≐ 0 ∷ fn ≐ 43 ∷ []) _ _ _ (c .before .pre .0, (c .before .pre .1 .0 ∙ c .match .keys10, tt)) refl refl)
+    (λ c. arm (c .before .pre .0) funct (c .before .pre .1 .0) (c .match .keys1) (λ va. refl))
+    (λ c. let s = c .before .before in
+    arm-if (s .before .pre .0) funct (s .before .pre .1 .0) (s .match .keys2) rt (c .before .rt .ensures) (c .if1 .taken) (λ va. refl))
+    (λ c. let s = c .before .before in
+    arm-else (s .before .pre .0) funct (s .before .pre .1 .0) (s .match .keys2) rt (c .before .rt .ensures) (c .if1 .left) (λ va. refl))
+    (λ c. arm (c .before .pre .0) funct (c .before .pre .1 .0) (c .match .keys3) (λ va. refl))
+    (λ c. let s = c .before .before in
+    arm-if (s .before .pre .0) funct (s .before .pre .1 .0) (s .match .keys4) rs (c .before .rs .ensures) (c .if2 .taken) (λ va. refl))
+    (λ c. let s = c .before .before in
+    arm-else (s .before .pre .0) funct (s .before .pre .1 .0) (s .match .keys4) rs (c .before .rs .ensures) (c .if2 .left) (λ va. refl))
+    (λ c. arm (c .before .pre .0) funct (c .before .pre .1 .0) (c .match .keys5) (λ va. refl))
+    (λ c. let s = c .before .before in
+    arm-if (s .before .pre .0) funct (s .before .pre .1 .0) (s .match .keys6) rt (c .before .rt2 .ensures) (c .if3 .taken) (λ va. refl))
+    (λ c. let s = c .before .before in
+    arm-else (s .before .pre .0) funct (s .before .pre .1 .0) (s .match .keys6) rt (c .before .rt2 .ensures) (c .if3 .left) (λ va. refl))
+    (λ c. arm (c .before .pre .0) funct (c .before .pre .1 .0) (c .match .keys7) (λ va. refl))
+    (λ c. let s = c .before .before in
+    arm-if (s .before .pre .0) funct (s .before .pre .1 .0) (s .match .keys8) rt (c .before .rt3 .ensures) (c .if4 .taken) (λ va. refl))
+    (λ c. let s = c .before .before in
+    arm-else (s .before .pre .0) funct (s .before .pre .1 .0) (s .match .keys8) rt (c .before .rt3 .ensures) (c .if4 .left) (λ va. refl))
+    (λ c. arm (c .before .pre .0) funct (c .before .pre .1 .0) (c .match .keys9) (λ va. refl))
+    (λ c. arm (c .before .pre .0) funct (c .before .pre .1 .0) (c .match .keys10) (λ va. refl))
     (λ c. c .doubleword-or-trap .ensures))

@@ -1,12 +1,10 @@
 use Prim.Native.Nat.{ℕ}
-use mathlib.Core.Path.{refl, sym, _∙_, subst}
+use mathlib.Core.Path.{refl, sym}
 use mathlib.Core.List.{List, [], _∷_}
 use borrow.Author.Needs.{needs}
-use Rattle.word.specs.Word.{op, rs, fn}
+use Rattle.word.specs.Word.{rs, funct}
 use Rattle.classes.specs.Meaning.{meaning, reading, outs, flowOf, targetIn, markOf, effectOf}
-use Rattle.decode.specs.Private.Groups.{NoneOf}
-use Rattle.decode.proofs.Facts.{_≐_, _noneOf_}
-use Rattle.decode.proofs.Arms.{rowBy, numberBy, accepts, refuses}
+use Rattle.decode.proofs.Arms.{rowBy, numberBy, arm, arm-if, arm-rest, arm-if-rest}
 use Rattle.decode.proofs.cop0.Statement.{statement}
 use Rattle.decode.proofs.cop0.Tie as tie
 
@@ -18,37 +16,14 @@ inner = 32 ∷ 24 ∷ []
 
 pub cop0-spec : {M : Type 1} → statement M
 unfolding rowBy numberBy meaning reading outs flowOf targetIn markOf effectOf
-cop0-spec =
-    tie.close
-    (tie.spec
-    (λ c κs. search needs)
-    (λ c κs. search needs)
-    (λ c wide va. accepts (op ≐ 16 ∷ rs ≐ 0 ∷ []) _ _ _ (c .before .before .pre, (sym (c .before .rs .ensures) ∙ c .match .keys1, tt)) refl refl)
-    (λ c wide va. accepts (op ≐ 16 ∷ rs ≐ 4 ∷ []) _ _ _ (c .before .before .pre, (sym (c .before .rs .ensures) ∙ c .match .keys2, tt)) refl refl)
-    (λ c wide va. accepts (op ≐ 16 ∷ rs ≐ 16 ∷ fn ≐ 24 ∷ []) _ _ _ (
-      c .before .before .before .before .pre,
-      (
-        sym (c .before .before .before .rs .ensures) ∙ c .before .before .match .keys3,
-        (sym (c .before .funct .ensures) ∙ c .match2 .keys1, tt),
-      ),
-    )
-    refl refl)
-    (λ c wide va. accepts (op ≐ 16 ∷ rs ≐ 16 ∷ fn ≐ 32 ∷ []) _ _ _ (
-      c .before .before .before .before .pre,
-      (
-        sym (c .before .before .before .rs .ensures) ∙ c .before .before .match .keys3,
-        (sym (c .before .funct .ensures) ∙ c .match2 .keys2, tt),
-      ),
-    )
-    refl refl)
-    (λ c wide va. refuses (op ≐ 16 ∷ rs ≐ 16 ∷ fn noneOf inner ∷ []) _ _ _ (
-      c .before .before .before .before .pre,
-      (
-        sym (c .before .before .before .rs .ensures) ∙ c .before .before .match .keys3,
-        (subst (λ (k : ℕ). NoneOf k inner) (c .before .funct .ensures) (c .match2 .rest), tt),
-      ),
-    )
-    refl tt refl)
-    (λ c wide va. refuses (op ≐ 16 ∷ rs noneOf outer ∷ []) _ _ _
-    (c .before .before .pre, (subst (λ (k : ℕ). NoneOf k outer) (c .before .rs .ensures) (c .match .rest), tt))
-    refl tt refl))
+cop0-spec = tie.close (tie.spec
+    (λ c κs. search needs) (λ c κs. search needs)
+    (λ c wide. arm (c .before .before .pre) rs (sym (c .before .rs .ensures)) (c .match .keys1) (λ va. refl))
+    (λ c wide. arm (c .before .before .pre) rs (sym (c .before .rs .ensures)) (c .match .keys2) (λ va. refl))
+    (λ c wide. let s = c .before .before in
+    arm-if (s .before .before .pre) rs (sym (s .before .rs .ensures)) (s .match .keys3) funct (c .before .funct .ensures) (c .match2 .keys1) (λ va. refl))
+    (λ c wide. let s = c .before .before in
+    arm-if (s .before .before .pre) rs (sym (s .before .rs .ensures)) (s .match .keys3) funct (c .before .funct .ensures) (c .match2 .keys2) (λ va. refl))
+    (λ c wide. let s = c .before .before in
+    arm-if-rest (s .before .before .pre) rs (sym (s .before .rs .ensures)) (s .match .keys3) funct inner (c .before .funct .ensures) (c .match2 .rest) refl tt)
+    (λ c wide. arm-rest (c .before .before .pre) rs (sym (c .before .rs .ensures)) outer (c .match .rest) refl tt))

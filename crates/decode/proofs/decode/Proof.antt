@@ -12,21 +12,18 @@ returns c = c .refused .ensures ∙ too-short (now (c .before .before .before .a
 
 returns-2 : tie.Need-returns-2
 returns-2 c =
-    let a = c .before .before .before .before .before .before .before .before .args in
-    c .decode-word .ensures
-    ∙ (ap (λ (w : ℕ). decodedOf w (a .va) (a .bits64)) (c .before .word-in .ensures)
-    ∙ first-four (now (a .bytes)) (a .va) (a .big-endian) (a .bits64) (c .before .before .before .before .before .before .if1 .left))
+    let b = c .before .before in
+    let i = b .before .before .before .before .before in
+    let a = i .before .before .args in
+    c .read .ensures
+    ∙ (c .before .shape-of .ensures .reads _
+    ∙ (ap (λ (w : ℕ). decodedOf w (a .va) (a .bits64)) (b .from-bytes .ensures)
+    ∙ first-four (now (a .bytes)) (a .va) (a .big-endian) (a .bits64) (i .if1 .left)))
 
 pub decode-spec : {M : Type 1} → statement M
-decode-spec =
-    tie.close
-    (tie.spec
+decode-spec = tie.close (tie.spec
     (λ c κs. search needs)
     returns
-    (λ c. search needs)
-    (λ c. search needs)
-    (λ c. search needs)
-    (λ c. search needs)
-    (λ c κs. search needs)
-    (λ c κs. search needs)
+    (λ c. search needs) (λ c. search needs) (λ c. search needs) (λ c. search needs) (λ c κs. search needs)
+    (λ c κs. search needs) (λ c κs. search needs)
     returns-2)

@@ -1,23 +1,18 @@
--- `decode::float` meets its contract.
--- Assumes nothing.
 use Prim.Native.Nat.{ℕ, _+_}
 use mathlib.Core.Path.{_≡_, subst}
 use mathlib.Core.Bool.{Bool}
 use mathlib.Core.Logic.{inl, ⊎-map}
 use native.Mathlib.Omega.{arith}
 use borrow.Author.Needs.{needs}
-use Rattle.word.specs.Word.{fieldsOf, fn}
-use Rattle.classes.specs.Row.{plain, nothing}
-use Rattle.classes.specs.Decoded.{decodedOf}
-use Rattle.decode.specs.declared.class.FloatOps.{FloatOps}
-use Rattle.decode.specs.Private.Answer.{columns}
-use Rattle.decode.specs.Private.Groups.{NoneOf}
-use Rattle.decode.proofs.Formats.{arms, functs, Picked, low, formOf, in-format, in-no-format}
+use Rattle.word.specs.Word.{fieldsOf, funct}
+use Rattle.decode.specs.declared.FloatOps.{FloatOps}
+use Rattle.decode.specs.Private.Groups.{Is, NoneOf}
+use Rattle.decode.proofs.Formats.{arms, functs, Picked, low, shapeOf, in-format, in-no-format}
 use Rattle.decode.proofs.float.Statement.{statement}
 use Rattle.decode.proofs.float.Tie as tie
 
 -- what no arm has
-unpicked : (c : tie.At-match-rest) → NoneOf (fieldsOf (c .before .before .args .w) fn) functs
+unpicked : (c : tie.At-match-rest) → NoneOf (fieldsOf (c .before .before .args .w) funct) functs
 unpicked c = subst (λ (k : ℕ). NoneOf k functs) (c .before .funct .ensures) (c .match .rest)
 
 -- where the arms meet
@@ -42,26 +37,19 @@ picked c =
     (c .match .came)
 
 -- and the operands are known
-answer : (c : tie.At-match-came) (ops : FloatOps) → c .match .base .1 ≡ ops → (wide : Bool) (va : ℕ) →
-    columns (c .match .base .0 + c .before .before .args .f) (formOf ops) plain nothing (c .before .before .args .w) va
-    ≡ decodedOf (c .before .before .args .w) va wide
-answer c ops e wide va =
+answer : (c : tie.At-match-came) (ops : FloatOps) → c .match .base .1 ≡ ops → (wide : Bool) →
+    Is (shapeOf (c .match .base .0 + c .before .before .args .f) ops) (c .before .before .args .w) wide
+answer c ops e wide =
     let a = c .before .before .args in
-    let k : Picked arms (fieldsOf (a .w) fn) (c .match .base) = rw (c .before .funct .ensures) at (picked c) in
-    rw e at (in-format (a .f) (a .w) va wide (c .before .before .pre .0) (c .match .base) k)
+    let k : Picked arms (fieldsOf (a .w) funct) (c .match .base) = rw (c .before .funct .ensures) at (picked c) in
+    rw e at (in-format (a .f) (a .w) wide (c .before .before .pre .0) (c .match .base) k)
 
 pub float-spec : {M : Type 1} → statement M
-float-spec =
-    tie.close
-    (tie.spec
+float-spec = tie.close (tie.spec
     (λ c κs. search needs)
-    (λ c wide va.
-    let s = c .before .before in
-    in-no-format (s .args .f) (s .args .w) va wide (s .pre .0) (unpicked c))
+    (λ c wide. let s = c .before .before in in-no-format (s .args .f) (s .args .w) wide (s .pre .0) (unpicked c))
     (λ c. omega (arith, low _ _ (picked c), c .before .before .pre .1))
-    (λ c. search needs)
-    (λ c. search needs)
-    (λ c. search needs)
+    (λ c. search needs) (λ c. search needs) (λ c. search needs)
     (λ c. answer (c .before .before) _ (c .enum-told .given .1))
     (λ c. answer (c .before .before) _ (c .enum-told2 .given .1))
     (λ c. answer (c .before .before) _ (c .enum-told3 .given .1)))

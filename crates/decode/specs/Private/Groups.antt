@@ -1,23 +1,22 @@
 -- What the decoder's private functions are handed, and what they answer.
--- Assumes nothing.
 use Prim.Native.Nat.{ℕ}
 use mathlib.Core.Path.{_≡_}
 use mathlib.Core.Bool.{Bool}
 use mathlib.Core.List.{List, [], _∷_}
-use Rattle.word.specs.Word.{Field, fieldsOf, op, rs, fn}
+use Rattle.word.specs.Word.{Field, fieldsOf, op, rs, funct}
 use Rattle.classes.specs.Decoded.{decodedOf}
-use Rattle.decode.specs.declared.class.Class.{Class}
-use Rattle.decode.specs.Private.Class.{readBy}
+use Rattle.forms.specs.declared.Shape.{Shape}
+use Rattle.forms.specs.Read.{readBy}
 
 -- ── answers ──
 
--- the class of the word under a width flag: read by it, the word has its answer at every address
-abbrev pub Is : Class → ℕ → Bool → Type 0
-Is c w wide = (va : ℕ) → readBy c w va ≡ decodedOf w va wide
+-- the shape of the word under a width flag: read by it, the word has its answer at every address
+pub record Is (s : Shape) (w : ℕ) (wide : Bool) : Type 0 where
+  pub reads : (va : ℕ) → readBy s w va ≡ decodedOf w va wide
 
 -- under each
-abbrev pub Each : Class → ℕ → Type 0
-Each c w = (wide : Bool) → Is c w wide
+abbrev pub Each : Shape → ℕ → Type 0
+Each s w = (wide : Bool) → Is s w wide
 
 -- ── words ──
 
@@ -39,9 +38,9 @@ Passed a (vs ∷ vss) = NoneOf a vs × Passed a vss
 abbrev pub Handed : Field → ℕ → List (List ℕ) → ℕ → Type 0
 Handed x k vss w = (fieldsOf w x ≡ k) × Passed (fieldsOf w x) vss
 
--- the class of every such word
-abbrev pub EachHanded : Class → ℕ → List (List ℕ) → Type 0
-EachHanded c k vss = (w : ℕ) → Handed op k vss w → Each c w
+-- the shape of every such word
+abbrev pub EachHanded : Shape → ℕ → List (List ℕ) → Type 0
+EachHanded s k vss = (w : ℕ) → Handed op k vss w → Each s w
 
 -- ── the arms by op ──
 
@@ -67,11 +66,11 @@ arithmetics = 43 ∷ 42 ∷ 39 ∷ 38 ∷ 37 ∷ 36 ∷ 35 ∷ 34 ∷ 33 ∷ 32 
 
 -- a word of SPECIAL whose funct is this, and was passed on so
 abbrev pub Special : ℕ → List (List ℕ) → ℕ → Type 0
-Special k vss w = Group 0 w × Handed fn k vss w
+Special k vss w = Group 0 w × Handed funct k vss w
 
 -- ── COP1, by fmt ──
 
--- a format's fmt, and how far its mnemonics stand behind those of format s
+-- a format's fmt, and the distance of its mnemonics from those of format s
 pub data Behind : ℕ → ℕ → Type 0 where
   single : {x k : ℕ} → x ≡ 16 → k ≡ 0 → Behind x k
   double : {x k : ℕ} → x ≡ 17 → k ≡ 16 → Behind x k

@@ -1,14 +1,12 @@
 use borrow.Author.Tests.{eq-eqb, ne-eqb}
 use borrow.Author.Needs.{needs}
-use Rattle.inverse.proofs.Rows.{afterNops}
+use Rattle.inverse.specs.Private.Candidate.{afterNops}
 use Rattle.encode.proofs.after_nops.Statement.{statement}
 use Rattle.encode.proofs.after_nops.Tie as tie
 
 pub after-nops-spec : {M : Type 1} → statement M
 unfolding afterNops
-after-nops-spec =
-    tie.close
-    (tie.spec
+after-nops-spec = tie.close (tie.spec
     (λ c. search needs)
     (λ c. rw (eq-eqb (c .before .args .w) 0 (c .if1 .taken)))
     (λ c. search needs)

@@ -1,7 +1,7 @@
 use mathlib.Core.Path.{sym, _∙_, ap}
 use borrow.Author.Needs.{needs}
 use Rattle.reading.specs.declared.Decoded.{Decoded}
-use Rattle.reading.proofs.Same.{said-no, said-yes}
+use Rattle.laws.proofs.Says.{said-no, said-yes}
 use Rattle.classes.proofs.Accepts.{accepted-as}
 use Rattle.inverse.proofs.Proved.{encoded, refused}
 use Rattle.encode.proofs.encode.Statement.{statement}
@@ -29,14 +29,9 @@ returns-3 c =
     ∙ accepted-as _ _ (c .before .before .before .if1 .left) (said-yes (c .before .same-insn .ensures) (c .if2 .left)))
 
 pub encode-spec : {M : Type 1} → statement M
-encode-spec =
-    tie.close
-    (tie.spec
-    (λ c κs. search needs)
-    (λ c κs. search needs)
-    (λ c κs. search needs)
+encode-spec = tie.close (tie.spec
+    (λ c κs. search needs) (λ c κs. search needs) (λ c κs. search needs)
     returns
-    (λ c κs. search needs)
-    (λ c κs. search needs)
+    (λ c κs. search needs) (λ c κs. search needs)
     returns-2
     returns-3)

@@ -3,8 +3,8 @@ use mathlib.Core.Path.{_≡_, sym, _∙_, ap, ap₂, subst}
 use native.Mathlib.Omega.{arith}
 use borrow.Author.Needs.{needs}
 use Rattle.reading.specs.declared.Op.{Op}
-use Rattle.inverse.proofs.Fill.{filled}
-use Rattle.inverse.proofs.Smallest.{operandAt}
+use Rattle.inverse.specs.Private.Fill.{filled}
+use Rattle.inverse.specs.Private.Candidate.{operandAt}
 use Rattle.encode.proofs.Candidates.{filled-small, four-slots}
 use Rattle.encode.specs.Private.Stem.{planOf, four}
 use Rattle.encode.proofs.fill.Statement.{statement}
@@ -33,14 +33,8 @@ returns : tie.Need-returns
 returns c = ap₂ _+_ (c .before .least-of .ensures) (sum c)
 
 pub fill-spec : {M : Type 1} → statement M
-fill-spec =
-    tie.close
-    (tie.spec
-    (λ c. search needs)
-    (λ c. search needs)
-    (λ c. search needs)
-    (λ c. search needs)
-    (λ c κs. search needs)
+fill-spec = tie.close (tie.spec
+    (λ c. search needs) (λ c. search needs) (λ c. search needs) (λ c. search needs) (λ c κs. search needs)
     (λ c κs. search needs)
     add-result
     returns)

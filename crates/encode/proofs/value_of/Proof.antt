@@ -7,14 +7,8 @@ use Rattle.encode.proofs.value_of.Statement.{statement}
 use Rattle.encode.proofs.value_of.Tie as tie
 
 pub value-of-spec : {M : Type 1} → statement M
-value-of-spec =
-    tie.close
-    (tie.spec
-    (λ c. search needs)
-    (λ c. search needs)
-    (λ c. search needs)
-    (λ c. search needs)
-    (λ c. search needs)
+value-of-spec = tie.close (tie.spec
+    (λ c. search needs) (λ c. search needs) (λ c. search needs) (λ c. search needs) (λ c. search needs)
     (λ c. search needs)
     (λ c. cc)
     (λ c. cc)

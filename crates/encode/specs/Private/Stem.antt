@@ -1,8 +1,8 @@
 -- What the encoder's private functions answer.
--- Assumes nothing.
 use Prim.Native.Nat.{ℕ, zero, suc, _+_, _*_, _^_, _≤_}
 use mathlib.Core.Path.{_≡_}
 use mathlib.Core.Bool.{Bool}
+use mathlib.Core.List.{List}
 use mathlib.Core.Option.{some}
 use lib.IntN.{ℤ}
 use Rattle.word.specs.Word.{word}
@@ -10,12 +10,10 @@ use Rattle.reading.specs.declared.Op.{Op}
 use Rattle.reading.specs.declared.Op.the-variants.{Reg}
 use Rattle.reading.specs.declared.Insn.{Insn}
 use Rattle.classes.specs.Row.{Form, link, Row}
-use Rattle.classes.specs.Table.{no-operands, one-rs, one-rd, rd-rs, rd-rt, rs-rt, rd-rs-rt, rd-rt-rs, rd-rt-sa, rt-cop0, fd-fs, fd-fs-ft, instr-index, offset}
-use Rattle.classes.specs.Table.{rs-offset, rs-rt-offset, rt-imm, rt-rs-imm, rt-base, ext-pos-size, ins-pos-size, table}
-use Rattle.inverse.proofs.Fill.{filled}
-use Rattle.inverse.proofs.Good.{base}
-use Rattle.inverse.proofs.Tables.{pick, first}
-use Rattle.inverse.proofs.Smallest.{Tries}
+use Rattle.classes.specs.Table as form
+use Rattle.classes.specs.Table.{table}
+use Rattle.inverse.specs.Private.Fill.{filled}
+use Rattle.inverse.specs.Private.Candidate.{base, pick, first, Tries}
 use Rattle.encode.specs.declared.stem.Stem.{Stem}
 use Rattle.encode.specs.declared.stem.Stem.the-variants as stem
 
@@ -28,28 +26,28 @@ abbrev plan : ℕ → Form → Plan
 plan w φ = record { least = w; shape = φ }
 
 abbrev pub planOf : Stem → Plan
-planOf (stem.Alone w) = plan w no-operands
-planOf (stem.Rs w) = plan w one-rs
-planOf (stem.Rd w) = plan w one-rd
-planOf (stem.RdRs w) = plan w rd-rs
-planOf (stem.RdRt w) = plan w rd-rt
-planOf (stem.RsRt w) = plan w rs-rt
-planOf (stem.RdRsRt w) = plan w rd-rs-rt
-planOf (stem.RdRtRs w) = plan w rd-rt-rs
-planOf (stem.RdRtSa w) = plan w rd-rt-sa
-planOf (stem.RtRd w) = plan w rt-cop0
-planOf (stem.SaRd w) = plan w fd-fs
-planOf (stem.SaRdRt w) = plan w fd-fs-ft
+planOf (stem.NoOperands w) = plan w form.no-operands
+planOf (stem.OneRs w) = plan w form.one-rs
+planOf (stem.OneRd w) = plan w form.one-rd
+planOf (stem.RdRs w) = plan w form.rd-rs
+planOf (stem.RdRt w) = plan w form.rd-rt
+planOf (stem.RsRt w) = plan w form.rs-rt
+planOf (stem.RdRsRt w) = plan w form.rd-rs-rt
+planOf (stem.RdRtRs w) = plan w form.rd-rt-rs
+planOf (stem.RdRtSa w) = plan w form.rd-rt-sa
+planOf (stem.RtCop0 w) = plan w form.rt-cop0
+planOf (stem.FdFs w) = plan w form.fd-fs
+planOf (stem.FdFsFt w) = plan w form.fd-fs-ft
 planOf (stem.Link w) = plan w link
-planOf (stem.Index w) = plan w instr-index
-planOf (stem.Offset w) = plan w offset
-planOf (stem.RsOffset w) = plan w rs-offset
-planOf (stem.RsRtOffset w) = plan w rs-rt-offset
-planOf (stem.RtImm w) = plan w rt-imm
-planOf (stem.RtRsImm w) = plan w rt-rs-imm
-planOf (stem.RtBase w) = plan w rt-base
-planOf (stem.Ext w) = plan w ext-pos-size
-planOf (stem.Ins w) = plan w ins-pos-size
+planOf (stem.InstrIndex w) = plan w form.instr-index
+planOf (stem.Offset w) = plan w form.offset
+planOf (stem.RsOffset w) = plan w form.rs-offset
+planOf (stem.RsRtOffset w) = plan w form.rs-rt-offset
+planOf (stem.RtImm w) = plan w form.rt-imm
+planOf (stem.RtRsImm w) = plan w form.rt-rs-imm
+planOf (stem.RtBase w) = plan w form.rt-base
+planOf (stem.ExtPosSize w) = plan w form.ext-pos-size
+planOf (stem.InsPosSize w) = plan w form.ins-pos-size
 
 -- four operands by their places
 abbrev pub four : Op → Op → Op → Op → ℕ → Op
@@ -72,15 +70,22 @@ pub record Serves (s : Stem) (h : Row) : Type 0 where
 abbrev pub Roomy : Stem → Type 0
 Roomy s = (planOf s) .least ≤ 63 * 2 ^ 26
 
--- the mnemonic's first row, if it has one, under each width flag
-pub record Is (s : Stem) (k : ℕ) : Type 0 where
+-- in these tables the mnemonic's first row, if it has one, under each width flag
+pub record IsIn (t : Bool → List Row) (s : Stem) (k : ℕ) : Type 0 where
   pub roomy : Roomy s
-  pub serves : (wide : Bool) (h : Row) → first (table wide) k ≡ some h → Serves s h
+  pub serves : (wide : Bool) (h : Row) → first (t wide) k ≡ some h → Serves s h
 
 -- the row for a mnemonic and the value of the second operand
-pub record For (s : Stem) (k : ℕ) (z : ℤ) : Type 0 where
+pub record ForIn (t : Bool → List Row) (s : Stem) (k : ℕ) (z : ℤ) : Type 0 where
   pub roomy : Roomy s
-  pub serves : (wide : Bool) (h : Row) → pick (table wide) k z ≡ some h → Serves s h
+  pub serves : (wide : Bool) (h : Row) → pick (t wide) k z ≡ some h → Serves s h
+
+-- in those of the definition
+abbrev pub Is : Stem → ℕ → Type 0
+Is s k = IsIn table s k
+
+abbrev pub For : Stem → ℕ → ℤ → Type 0
+For s k z = ForIn table s k z
 
 -- one of the mnemonics from a to b
 abbrev pub Between : ℕ → ℕ → ℕ → Type 0

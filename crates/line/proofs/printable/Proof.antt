@@ -1,5 +1,4 @@
 -- `line::printable` meets its contract: after k turns it is known of the first k operands.
--- Assumes nothing.
 use borrow.Author.Needs.{needs}
 use borrow.Author.Tests.{lt-ltb, le-ltb, le-leb, lt-leb, not-true, not-false}
 use mathlib.Core.Path.{_≡_, refl, sym, _∙_}
@@ -7,6 +6,7 @@ use Prim.Native.Nat.{_≤_, _-_}
 use native.Mathlib.Omega.{arith}
 use lib.ListN.{length, length-map}
 use Rattle.reading.specs.Kind.{many}
+use Rattle.reading.specs.declared.Insn.{Insn}
 use Rattle.line.specs.Line.{allRegistered, printable}
 use Rattle.line.proofs.Operands.{rest, stops, goes-on, all-done}
 use Rattle.line.proofs.printable.Statement.{statement}
@@ -25,52 +25,67 @@ returns c = rw (le-ltb (c .before .before .args .i .mnemonic) many (omega (arith
 returns-2 : tie.Need-returns-2 Inv-loop μ-loop
 unfolding printable
 returns-2 c =
-    let s = c .before .before .before .before in
-    rw (lt-ltb (s .args .i .mnemonic) many (omega (arith, c .before .before .if1 .left)), lt-leb (s .args .i .count) 4 (c .if2 .taken))
+    let named = c .before .before in
+    let i = named .before .before .args .i in
+    rw (lt-ltb (i .mnemonic) many (omega (arith, named .if1 .left)), lt-leb (i .count) 4 (c .if2 .taken))
+
+-- before the loop the mnemonic was found to have a name, and the operands to be few
+module _ (turn : tie.At-loop Inv-loop μ-loop) where
+  abbrev few : tie.Else2 Inv-loop μ-loop
+  few = turn .before .before .before
+
+  abbrev named : tie.Else1 Inv-loop μ-loop
+  named = few .before .before
+
+  abbrev start : tie.Start Inv-loop μ-loop
+  start = named .before .before
+
+  abbrev i : Insn
+  i = start .args .i
+
+  inside : i .count ≤ length (i .ops)
+  inside =
+      let four : length (i .ops) ≡ 4 = simp length-map at (start .good .0 .1 .1 .1 .1 .0 .1 .0 .1) in
+      omega (arith, few .if2 .left)
+
+  -- so its registers are what is left to ask
+  asks : printable i ≡ allRegistered (rest 0 (i .count) (i .ops))
+  unfolding printable
+  asks = rw (lt-ltb (i .mnemonic) many (omega (arith, named .if1 .left)), le-leb (i .count) 4 (few .if2 .left))
 
 returns-3 : tie.Need-returns-3 Inv-loop μ-loop
-unfolding printable
 returns-3 c =
-    let s = c .before .before .before .before .before .before .before .before .before .before .before in
-    let l = c .before .before .before .before .loop in
-    let i = s .args .i in
-    let four : length (i .ops) ≡ 4 = simp length-map at (s .good .0 .1 .1 .1 .1 .0 .1 .0 .1) in
-    let m : i .count ≤ length (i .ops) = omega arith in
-    rw (lt-ltb (i .mnemonic) many (omega (arith, c .before .before .before .before .before .before .before .before .before .if1 .left)), le-leb (i .count) 4 (c .before .before .before .before .before .before .before .if2 .left))
-    (sym (l .inv .1 ∙ stops (l .k) (i .count) (i .ops) (omega arith) m (sym (c .before .registered .ensures) ∙ not-true _ (c .if3 .taken))))
+    let asked = c .before in
+    let turn = asked .before .before .before in
+    let l = turn .loop in
+    let none = sym (asked .registered .ensures) ∙ not-true _ (c .if3 .taken) in
+    sym (asks turn ∙ l .inv .1 ∙ stops (l .k) (i turn .count) (i turn .ops) (omega arith) (inside turn) none)
 
 loop-again : tie.Need-loop-again Inv-loop μ-loop
 loop-again c =
-    let i = c .before .before .before .before .before .before .before .before .before .before .before .args .i in
-    let l = c .before .before .before .before .loop in
-    let four : length (i .ops) ≡ 4 = simp length-map at (c .before .before .before .before .before .before .before .before .before .before .before .good .0 .1 .1 .1 .1 .0 .1 .0 .1) in
-    let m : i .count ≤ length (i .ops) = omega arith in
-    (omega arith, l .inv .1 ∙ goes-on (l .k) (i .count) (i .ops) (omega arith) m (sym (c .before .registered .ensures) ∙ not-false _ (c .if3 .left)))
+    let asked = c .before in
+    let turn = asked .before .before .before in
+    let l = turn .loop in
+    let some = sym (asked .registered .ensures) ∙ not-false _ (c .if3 .left) in
+    (omega arith, l .inv .1 ∙ goes-on (l .k) (i turn .count) (i turn .ops) (omega arith) (inside turn) some)
 
 returns-4 : tie.Need-returns-4 Inv-loop μ-loop
-unfolding printable
 returns-4 c =
-    let i = c .before .before .before .before .before .before .before .before .args .i in
-    let l = c .before .loop in
-    let e : l .k ≡ i .count = omega arith in
-    rw (lt-ltb (i .mnemonic) many (omega (arith, c .before .before .before .before .before .before .if1 .left)), le-leb (i .count) 4 (c .before .before .before .before .if2 .left))
-    (sym (rw e at (l .inv .1) ∙ all-done (i .count) (i .ops)))
+    let turn = c .before in
+    let l = turn .loop in
+    let e : l .k ≡ i turn .count = omega arith in
+    sym (asks turn ∙ rw e at (l .inv .1) ∙ all-done (i turn .count) (i turn .ops))
 
 pub printable-spec : {M : Type 1} → statement M
-printable-spec =
-    tie.close
-    (tie.spec
+printable-spec = tie.close (tie.spec
     Inv-loop
     μ-loop
     returns
     returns-2
     (λ c. search needs)
     (λ c. (omega arith, refl))
-    (λ c. search needs)
-    (λ c. search needs)
-    (λ c κs. search needs)
+    (λ c. search needs) (λ c. search needs) (λ c κs. search needs)
     returns-3
-    (λ c. search needs)
-    (λ c. search needs)
+    (λ c. search needs) (λ c. search needs)
     loop-again
     returns-4)

@@ -1,10 +1,9 @@
 -- What the private functions answer.
--- Assumes nothing.
 use Prim.Native.Nat.{ℕ}
 use mathlib.Core.Bool.{cond}
 use mathlib.Core.List.{List}
 use lib.Dec.{eqb}
-use Rattle.line.specs.Line.{textOf}
+use Rattle.text.specs.Text.{textOf}
 
 -- what stands before operand k
 abbrev pub before : ℕ → List ℕ

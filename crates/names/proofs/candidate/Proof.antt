@@ -1,5 +1,4 @@
 -- `names::candidate` meets its contract: computed tests of SHIFTS and KINDS.
--- Assumes nothing.
 use borrow.Author.Needs.{needs}
 use mathlib.Core.Path.{refl}
 use native.Mathlib.Omega.{arith}
@@ -7,8 +6,9 @@ use lib.ListN.{getD}
 use mir.Syntax.{w8}
 use mir.Val.{Fits}
 use Rattle.reading.specs.Names.{mnemonics, nameOf}
-use Rattle.names.specs.Names.{letter, letters, padded, nameBytes}
-use Rattle.classes.proofs.Tests.{allBelow}
+use Rattle.text.specs.Text.{letter, letters, padded}
+use Rattle.names.specs.Names.{nameBytes}
+use Rattle.laws.proofs.Tests.{allBelow}
 use Rattle.names.proofs.Tables.{complete, onlyKinds, candidate-is}
 use Rattle.names.proofs.candidate.Statement.{statement}
 use Rattle.names.proofs.candidate.Tie as tie
@@ -27,19 +27,15 @@ add-place-2 c =
 returns : tie.Need-returns
 unfolding complete onlyKinds allBelow nameBytes nameOf mnemonics padded letters letter
 returns c =
-    let n = c .before .before .get8 in
+    let w = c .before .before in
+    let n = w .get8 in
     let s = c .before .shift-in in
-    candidate-is (n .result) (getD (c .before .before .before .before .args .t1) 8 0) (s .result) (n .ensures .0) refl (s .ensures) refl (c .kind-in .ensures) tt tt
+    let ninth = getD (w .before .before .args .t1) 8 0 in
+    candidate-is (n .result) ninth (s .result) (n .ensures .0) refl (s .ensures) refl (c .kind-in .ensures) tt tt
 
 pub candidate-spec : {M : Type 1} → statement M
-candidate-spec =
-    tie.close
-    (tie.spec
-    (λ c. search needs)
-    (λ c κs. search needs)
-    (λ c. search needs)
-    (λ c. search needs)
-    (λ c κs. search needs)
+candidate-spec = tie.close (tie.spec
+    (λ c. search needs) (λ c κs. search needs) (λ c. search needs) (λ c. search needs) (λ c κs. search needs)
     (λ c. search needs)
     add-place
     add-place-2

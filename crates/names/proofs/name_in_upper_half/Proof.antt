@@ -1,12 +1,12 @@
 -- `names::name_in_upper_half` meets its contract: one law, one computed test an arm.
--- Assumes nothing.
 use borrow.Author.Needs.{needs}
 use Prim.Native.Nat.{_+_, _*_, _≤_}
 use mathlib.Core.Path.{sym}
 use native.Mathlib.Omega.{arith}
 use Rattle.reading.specs.Names.{mnemonics, nameOf}
-use Rattle.names.specs.Names.{letter, letters, padded, nameBytes, same}
-use Rattle.classes.proofs.Tests.{allBelow, past}
+use Rattle.text.specs.Text.{letter, letters, padded, same}
+use Rattle.names.specs.Names.{nameBytes}
+use Rattle.laws.proofs.Tests.{allBelow, past}
 use Rattle.names.proofs.Found.{no-name}
 use Rattle.names.proofs.Tables.{rightNames, arm}
 use Rattle.names.proofs.name_in_upper_half.Statement.{statement}
@@ -14,34 +14,12 @@ use Rattle.names.proofs.name_in_upper_half.Tie as tie
 
 pub name-in-upper-half-spec : {M : Type 1} → statement M
 unfolding rightNames allBelow same nameBytes nameOf mnemonics padded letters letter
-name-in-upper-half-spec =
-    tie.close
-    (tie.spec
-    (λ c κs. search needs)
-    (λ c κs. search needs)
-    (λ c κs. search needs)
-    (λ c κs. search needs)
-    (λ c κs. search needs)
-    (λ c κs. search needs)
-    (λ c κs. search needs)
-    (λ c κs. search needs)
-    (λ c κs. search needs)
-    (λ c κs. search needs)
-    (λ c κs. search needs)
-    (λ c κs. search needs)
-    (λ c κs. search needs)
-    (λ c κs. search needs)
-    (λ c κs. search needs)
-    (λ c κs. search needs)
-    (λ c κs. search needs)
-    (λ c κs. search needs)
-    (λ c κs. search needs)
-    (λ c κs. search needs)
-    (λ c κs. search needs)
-    (λ c κs. search needs)
-    (λ c κs. search needs)
-    (λ c κs. search needs)
-    (λ c κs. search needs)
+name-in-upper-half-spec = tie.close (tie.spec
+    (λ c κs. search needs) (λ c κs. search needs) (λ c κs. search needs) (λ c κs. search needs) (λ c κs. search needs)
+    (λ c κs. search needs) (λ c κs. search needs) (λ c κs. search needs) (λ c κs. search needs) (λ c κs. search needs)
+    (λ c κs. search needs) (λ c κs. search needs) (λ c κs. search needs) (λ c κs. search needs) (λ c κs. search needs)
+    (λ c κs. search needs) (λ c κs. search needs) (λ c κs. search needs) (λ c κs. search needs) (λ c κs. search needs)
+    (λ c κs. search needs) (λ c κs. search needs) (λ c κs. search needs) (λ c κs. search needs) (λ c κs. search needs)
     (λ c κs. search needs)
     (λ c. arm (c .name-in .ensures) (c .before .before .pre .1) (c .before .match .keys1) tt)
     (λ c. arm (c .name-in2 .ensures) (c .before .before .pre .1) (c .before .match .keys2) tt)

@@ -1,48 +1,24 @@
 -- `names::name_of` meets its contract: one law, one computed test an arm.
--- Assumes nothing.
 use borrow.Author.Needs.{needs}
 use mathlib.Core.Path.{_∙_, ap}
 use native.Mathlib.Omega.{arith}
 use Rattle.reading.specs.Names.{mnemonics, nameOf}
-use Rattle.names.specs.Names.{letter, letters, padded, nameBytes, same}
-use Rattle.classes.proofs.Tests.{allBelow, past}
+use Rattle.text.specs.Text.{letter, letters, padded, same}
+use Rattle.names.specs.Names.{nameBytes}
+use Rattle.laws.proofs.Tests.{allBelow, past}
 use Rattle.names.proofs.Tables.{rightNames, arm-of, whole}
 use Rattle.names.proofs.name_of.Statement.{statement}
 use Rattle.names.proofs.name_of.Tie as tie
 
 pub name-of-spec : {M : Type 1} → statement M
 unfolding rightNames allBelow same nameBytes nameOf mnemonics padded letters letter
-name-of-spec =
-    tie.close
-    (tie.spec
-    (λ c. search needs)
-    (λ c κs. search needs)
-    (λ c κs. search needs)
-    (λ c κs. search needs)
-    (λ c κs. search needs)
-    (λ c κs. search needs)
-    (λ c κs. search needs)
-    (λ c κs. search needs)
-    (λ c κs. search needs)
-    (λ c κs. search needs)
-    (λ c κs. search needs)
-    (λ c κs. search needs)
-    (λ c κs. search needs)
-    (λ c κs. search needs)
-    (λ c κs. search needs)
-    (λ c κs. search needs)
-    (λ c κs. search needs)
-    (λ c κs. search needs)
-    (λ c κs. search needs)
-    (λ c κs. search needs)
-    (λ c κs. search needs)
-    (λ c κs. search needs)
-    (λ c κs. search needs)
-    (λ c κs. search needs)
-    (λ c κs. search needs)
-    (λ c κs. search needs)
-    (λ c κs. search needs)
-    (λ c κs. search needs)
+name-of-spec = tie.close (tie.spec
+    (λ c. search needs) (λ c κs. search needs) (λ c κs. search needs) (λ c κs. search needs) (λ c κs. search needs)
+    (λ c κs. search needs) (λ c κs. search needs) (λ c κs. search needs) (λ c κs. search needs) (λ c κs. search needs)
+    (λ c κs. search needs) (λ c κs. search needs) (λ c κs. search needs) (λ c κs. search needs) (λ c κs. search needs)
+    (λ c κs. search needs) (λ c κs. search needs) (λ c κs. search needs) (λ c κs. search needs) (λ c κs. search needs)
+    (λ c κs. search needs) (λ c κs. search needs) (λ c κs. search needs) (λ c κs. search needs) (λ c κs. search needs)
+    (λ c κs. search needs) (λ c κs. search needs) (λ c κs. search needs)
     (λ c κs. (past _ 0 27 (omega arith) (c .match .rest), omega arith))
     (λ c. arm-of (c .before .before .args .kind) (c .name-in .ensures) (c .before .match .keys1) tt)
     (λ c. arm-of (c .before .before .args .kind) (c .name-in2 .ensures) (c .before .match .keys2) tt)

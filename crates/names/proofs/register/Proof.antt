@@ -1,9 +1,9 @@
 -- `names::register` meets its contract: a computed test of REGS.
--- Assumes nothing.
 use borrow.Author.Needs.{needs}
 use mathlib.Core.Path.{sym}
-use Rattle.names.specs.Names.{letter, letters, padded, registers, registerBytes, same}
-use Rattle.classes.proofs.Tests.{allBelow}
+use Rattle.text.specs.Text.{letter, letters, padded, same}
+use Rattle.names.specs.Names.{registers, registerBytes}
+use Rattle.laws.proofs.Tests.{allBelow}
 use Rattle.names.proofs.Tables.{rightRegs, register-is, no-register}
 use Rattle.names.proofs.register.Statement.{statement}
 use Rattle.names.proofs.register.Tie as tie

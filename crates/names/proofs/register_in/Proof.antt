@@ -1,5 +1,4 @@
 -- `names::register_in` meets its contract: byte by byte.
--- Assumes nothing.
 use borrow.Author.Needs.{needs}
 use Prim.Native.Nat.{_+_, _*_, _≤_}
 use mathlib.Core.Path.{_≡_, sym}
@@ -16,15 +15,7 @@ returns c =
     record { bytes = sym (bytes-at 3 (4 * c .args .row) (c .args .t1) inside) }
 
 pub register-in-spec : {M : Type 1} → statement M
-register-in-spec =
-    tie.close
-    (tie.spec
-    (λ c. search needs)
-    (λ c. search needs)
-    (λ c. search needs)
-    (λ c. search needs)
-    (λ c. search needs)
-    (λ c. search needs)
-    (λ c. search needs)
-    (λ c. search needs)
+register-in-spec = tie.close (tie.spec
+    (λ c. search needs) (λ c. search needs) (λ c. search needs) (λ c. search needs) (λ c. search needs)
+    (λ c. search needs) (λ c. search needs) (λ c. search needs)
     returns)

@@ -1,12 +1,11 @@
 -- `names::same_name` meets its contract: the bytes of a number are those that it was read from.
--- Assumes nothing.
 use borrow.Author.Needs.{needs}
 use mathlib.Core.Path.{_≡_, sym, _∙_, ap}
 use native.Mathlib.Omega.{arith}
 use lib.ListN.{length, take, drop}
 use borrow.Author.Tests.{eqb-true, eq-eqb}
 use Rattle.buffers.specs.Bytes.{lowBytes, numAt}
-use Rattle.names.proofs.Same.{halves-same}
+use Rattle.names.proofs.Halves.{halves-same}
 use Rattle.names.proofs.same_name.Statement.{statement}
 use Rattle.names.proofs.same_name.Tie as tie
 
@@ -32,16 +31,8 @@ returns-2 c =
     (λ e. absurd (c .if1 .left (eqb-true (n .result) (m .result) e)), λ e. eq-eqb (n .result) (m .result) (n .ensures .0 ∙ ap (numAt 8 0) e ∙ sym (m .ensures .0)))
 
 pub same-name-spec : {M : Type 1} → statement M
-same-name-spec =
-    tie.close
-    (tie.spec
-    (λ c. search needs)
-    (λ c κs. search needs)
-    (λ c. search needs)
-    (λ c κs. search needs)
-    (λ c. search needs)
-    (λ c κs. search needs)
-    (λ c. search needs)
-    (λ c κs. search needs)
+same-name-spec = tie.close (tie.spec
+    (λ c. search needs) (λ c κs. search needs) (λ c. search needs) (λ c κs. search needs) (λ c. search needs)
+    (λ c κs. search needs) (λ c. search needs) (λ c κs. search needs)
     returns
     returns-2)

@@ -1,5 +1,4 @@
 -- What the private functions answer.
--- Assumes nothing.
 use Prim.Native.Nat.{ℕ, _*_, _<_}
 use mathlib.Core.Path.{_≡_}
 use mathlib.Core.Logic.{_⊎_}
@@ -8,7 +7,7 @@ use lib.ListN.{take, drop, getD}
 use Rattle.reading.specs.Kind.{many}
 use Rattle.names.specs.Names.{nameBytes, noKind}
 
--- r is one row of a table whose rows have so many bytes
+-- r is one row of a table whose rows have this many bytes
 pub record IsRow (size : ℕ) (l : List ℕ) (row : ℕ) (r : List ℕ) : Type 0 where
   pub bytes : r ≡ take size (drop (size * row) l)
 

@@ -5,14 +5,8 @@ use Rattle.reading.proofs.flow_number.Statement.{statement}
 use Rattle.reading.proofs.flow_number.Tie as tie
 
 pub flow-number-spec : {M : Type 1} → statement M
-flow-number-spec =
-    tie.close
-    (tie.spec
-    (λ c. search needs)
-    (λ c. search needs)
-    (λ c. search needs)
-    (λ c. search needs)
-    (λ c. search needs)
+flow-number-spec = tie.close (tie.spec
+    (λ c. search needs) (λ c. search needs) (λ c. search needs) (λ c. search needs) (λ c. search needs)
     (λ c. search needs)
     (λ c. ap flowNumber (sym (c .enum-told .given .1)))
     (λ c. ap flowNumber (sym (c .enum-told2 .given .1)))

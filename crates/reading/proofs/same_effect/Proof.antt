@@ -8,10 +8,6 @@ returns : tie.Need-returns
 returns c = by-parts _ _ effectParts effect-one (c .before .before .effect-parts .ensures) (c .before .effect-parts2 .ensures) (c .same-parts .ensures)
 
 pub same-effect-spec : {M : Type 1} → statement M
-same-effect-spec =
-    tie.close
-    (tie.spec
-    (λ c κs. search needs)
-    (λ c κs. search needs)
-    (λ c κs. search needs)
+same-effect-spec = tie.close (tie.spec
+    (λ c κs. search needs) (λ c κs. search needs) (λ c κs. search needs)
     returns)

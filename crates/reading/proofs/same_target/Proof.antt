@@ -8,10 +8,6 @@ returns : tie.Need-returns
 returns c = by-parts _ _ targetParts target-one (c .before .before .target-parts .ensures) (c .before .target-parts2 .ensures) (c .same-parts .ensures)
 
 pub same-target-spec : {M : Type 1} → statement M
-same-target-spec =
-    tie.close
-    (tie.spec
-    (λ c κs. search needs)
-    (λ c κs. search needs)
-    (λ c κs. search needs)
+same-target-spec = tie.close (tie.spec
+    (λ c κs. search needs) (λ c κs. search needs) (λ c κs. search needs)
     returns)

@@ -1,60 +1,59 @@
--- `record::are_operands` meets its contract.
--- Assumes nothing.
-use borrow.Author.Needs.{needs}
-use mathlib.Core.Path.{refl}
-use Prim.Native.Nat.{_≤_}
+use Prim.Native.Nat.{ℕ, _≤_}
+use mathlib.Core.Path.{_≡_, refl}
+use mathlib.Core.List.{List}
 use native.Mathlib.Omega.{arith}
 use lib.ListN.{length}
-use Rattle.reading.proofs.Same.{differs, said-no, said-yes}
-use Rattle.record.specs.Record.{slotOf, slotBytes}
+use borrow.Author.Needs.{needs}
+use Rattle.laws.proofs.Says.{ends-no, decides}
+use Rattle.reading.specs.declared.Insn.{Insn}
+use Rattle.record.specs.Record.{slotOf, slotBytes, operandBytes}
+use Rattle.record.specs.Private.Steps.{part}
 use Rattle.record.proofs.Pieces.{slot-0, slot-1, slot-2, slot-3, all-slots}
 use Rattle.record.proofs.are_operands.Statement.{statement}
 use Rattle.record.proofs.are_operands.Tie as tie
 
+abbrev slot : Insn → ℕ → List ℕ
+slot i k = slotBytes (slotOf i k)
+
+module _ (i : Insn) (l : List ℕ) (h : 64 ≤ length l) where
+  at-0 : operandBytes i ≡ part 24 40 l → slot i 0 ≡ part 24 10 l
+  at-0 = slot-0 (slot i 0) (slot i 1) (slot i 2) (slot i 3) l refl refl refl h
+
+  at-1 : operandBytes i ≡ part 24 40 l → slot i 1 ≡ part 34 10 l
+  at-1 = slot-1 (slot i 0) (slot i 1) (slot i 2) (slot i 3) l refl refl refl h
+
+  at-2 : operandBytes i ≡ part 24 40 l → slot i 2 ≡ part 44 10 l
+  at-2 = slot-2 (slot i 0) (slot i 1) (slot i 2) (slot i 3) l refl refl refl h
+
+  at-3 : operandBytes i ≡ part 24 40 l → slot i 3 ≡ part 54 10 l
+  at-3 = slot-3 (slot i 0) (slot i 1) (slot i 2) (slot i 3) l refl refl refl h
+
+-- the first three are as the reading says
 returns : tie.Need-returns
 returns c =
-    let s = c .before .before .before in
-    let i = s .args .d .insn in
-    let h : 64 ≤ length (s .args .b .now) = omega arith in
-    differs (λ e. said-no (c .before .is-operand .ensures) (c .if1 .taken)
-    (slot-0 (slotBytes (slotOf i 0)) (slotBytes (slotOf i 1)) (slotBytes (slotOf i 2)) (slotBytes (slotOf i 3)) (s .args .b .now) refl refl refl h e))
-
-returns-2 : tie.Need-returns-2
-returns-2 c =
-    let s = c .before .before .before .before .before in
-    let i = s .args .d .insn in
-    let h : 64 ≤ length (s .args .b .now) = omega arith in
-    differs (λ e. said-no (c .before .is-operand2 .ensures) (c .if2 .taken)
-    (slot-1 (slotBytes (slotOf i 0)) (slotBytes (slotOf i 1)) (slotBytes (slotOf i 2)) (slotBytes (slotOf i 3)) (s .args .b .now) refl refl refl h e))
-
-returns-3 : tie.Need-returns-3
-returns-3 c =
-    let s = c .before .before .before .before .before .before .before in
-    let i = s .args .d .insn in
-    let h : 64 ≤ length (s .args .b .now) = omega arith in
-    differs (λ e. said-no (c .before .is-operand3 .ensures) (c .if3 .taken)
-    (slot-2 (slotBytes (slotOf i 0)) (slotBytes (slotOf i 1)) (slotBytes (slotOf i 2)) (slotBytes (slotOf i 3)) (s .args .b .now) refl refl refl h e))
-
-returns-4 : tie.Need-returns-4
-returns-4 c =
-    let s = c .before .before .before .before .before .before .before .before in
+    let third = c .before in
+    let second = third .before .before in
+    let first = second .before .before in
+    let s = first .before .before .before in
     let i = s .args .d .insn in
     let l = s .args .b .now in
-    let h : 64 ≤ length l = omega arith in (
-      λ t. all-slots (slotBytes (slotOf i 0)) (slotBytes (slotOf i 1)) (slotBytes (slotOf i 2)) (slotBytes (slotOf i 3)) l refl refl refl h
-          (said-yes (c .before .before .before .before .before .before .is-operand .ensures) (c .before .before .before .before .before .if1 .left)) (said-yes (c .before .before .before .before .is-operand2 .ensures) (c .before .before .before .if2 .left)) (said-yes (c .before .before .is-operand3 .ensures) (c .before .if3 .left)) (c .is-operand4 .ensures .0 t),
-      λ e. c .is-operand4 .ensures .1 (slot-3 (slotBytes (slotOf i 0)) (slotBytes (slotOf i 1)) (slotBytes (slotOf i 2)) (slotBytes (slotOf i 3)) l refl refl refl h e),
-    )
+    let h : 64 ≤ length l = omega arith in
+    decides (c .is-operand4 .ensures) (at-3 i l h)
+    (all-slots (slot i 0) (slot i 1) (slot i 2) (slot i 3) l refl refl refl h
+    (first .before .is-operand .ensures .0 (first .if1 .taken))
+    (second .before .is-operand2 .ensures .0 (second .if2 .taken))
+    (third .before .is-operand3 .ensures .0 (third .if3 .taken)))
 
 pub are-operands-spec : {M : Type 1} → statement M
-are-operands-spec =
-    tie.close
-    (tie.spec
-    (λ c κs. search needs)
+are-operands-spec = tie.close (tie.spec
+    (λ c κs. search needs) (λ c κs. search needs) (λ c κs. search needs) (λ c κs. search needs)
     returns
-    (λ c κs. search needs)
-    returns-2
-    (λ c κs. search needs)
-    returns-3
-    (λ c κs. search needs)
-    returns-4)
+    (λ c. let second = c .before .before in
+    let first = second .before .before in
+    let a = first .before .before .before .args in
+    ends-no (c .before .is-operand3 .ensures) (at-2 (a .d .insn) (a .b .now) (omega arith)) (c .if3 .left))
+    (λ c. let first = c .before .before in
+    let a = first .before .before .before .args in
+    ends-no (c .before .is-operand2 .ensures) (at-1 (a .d .insn) (a .b .now) (omega arith)) (c .if2 .left))
+    (λ c. let a = c .before .before .before .args in
+    ends-no (c .before .is-operand .ensures) (at-0 (a .d .insn) (a .b .now) (omega arith)) (c .if1 .left)))

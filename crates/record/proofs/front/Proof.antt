@@ -1,5 +1,3 @@
--- `record::front` meets its contract.
--- Assumes nothing.
 use borrow.Author.Needs.{needs}
 use mathlib.Core.Path.{refl}
 use native.Mathlib.Omega.{arith}
@@ -10,15 +8,14 @@ use Rattle.record.proofs.front.Tie as tie
 
 returns : tie.Need-returns
 returns c =
-    let s = c .before .before .before .before .before .before .before .before .before in
+    let effect-put = c .before .before in
+    let head-put = effect-put .before .before .before .before in
+    let s = head-put .before .before .before in
     let i = s .args .d .insn in
-    then-at 0 12 (headBytes i) (effectBytes (i .effect)) (s .args .out .now) refl (omega arith) (c .before .before .before .before .before .before .head .ensures) (c .before .before .effect .ensures)
+    then-at 0 12 (headBytes i) (effectBytes (i .effect)) (s .args .out .now) refl (omega arith)
+    (head-put .head .ensures) (effect-put .effect .ensures)
 
 pub front-spec : {M : Type 1} → statement M
-front-spec =
-    tie.close
-    (tie.spec
-    (λ c κs. search needs)
-    (λ c κs. search needs)
-    (λ c. search needs)
+front-spec = tie.close (tie.spec
+    (λ c κs. search needs) (λ c κs. search needs) (λ c. search needs)
     returns)

@@ -1,5 +1,3 @@
--- `record::is_effect` meets its contract.
--- Assumes nothing.
 use borrow.Author.Needs.{needs}
 use mathlib.Core.Path.{ap, _∙_}
 use mathlib.Core.List.{List, _∷_}
@@ -25,10 +23,6 @@ returns c =
     (c .has-four .ensures)
 
 pub is-effect-spec : {M : Type 1} → statement M
-is-effect-spec =
-    tie.close
-    (tie.spec
-    (λ c κs. search needs)
-    (λ c κs. search needs)
-    (λ c κs. search needs)
+is-effect-spec = tie.close (tie.spec
+    (λ c κs. search needs) (λ c κs. search needs) (λ c κs. search needs)
     returns)

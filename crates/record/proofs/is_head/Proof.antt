@@ -1,5 +1,3 @@
--- `record::is_head` meets its contract.
--- Assumes nothing.
 use borrow.Author.Needs.{needs}
 use mathlib.Core.Path.{ap, _∙_}
 use mathlib.Core.List.{_∷_}
@@ -13,22 +11,19 @@ use Rattle.record.proofs.is_head.Tie as tie
 
 returns : tie.Need-returns
 returns c =
-    let s = c .before .before .before .before .before .before .before in
+    let value = c .before in
+    let marks = value .before in
+    let flow = marks .before in
+    let parts = flow .before in
+    let s = parts .before .before .before in
     let i = s .args .d .insn in
     let v : ℕ = valueOf (targetParts (i .target)) in
-    let r = c .before .value-of .result in
-    let low = c .before .value-of .ensures ∙ ap (λ (q : Parts). valueOf q % 2 ^ 64) (c .before .before .before .before .target-parts .ensures) in
+    let low = value .value-of .ensures ∙ ap (λ (q : Parts). valueOf q % 2 ^ 64) (parts .target-parts .ensures) in
     in-other-words
-    (λ t. 0 ∷ c .before .before .before .flow-number .ensures t ∷ c .before .before .marks .ensures t ∷ i .count ∷ low8 r v low t)
+    (λ t. 0 ∷ flow .flow-number .ensures t ∷ marks .marks .ensures t ∷ i .count ∷ low8 (value .value-of .result) v low t)
     (c .has-four .ensures)
 
 pub is-head-spec : {M : Type 1} → statement M
-is-head-spec =
-    tie.close
-    (tie.spec
-    (λ c κs. search needs)
-    (λ c κs. search needs)
-    (λ c κs. search needs)
-    (λ c κs. search needs)
-    (λ c κs. search needs)
+is-head-spec = tie.close (tie.spec
+    (λ c κs. search needs) (λ c κs. search needs) (λ c κs. search needs) (λ c κs. search needs) (λ c κs. search needs)
     returns)

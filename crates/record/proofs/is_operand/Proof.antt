@@ -1,5 +1,3 @@
--- `record::is_operand` meets its contract.
--- Assumes nothing.
 use borrow.Author.Needs.{needs}
 use mathlib.Core.Path.{ap, _∙_}
 use mathlib.Core.List.{List, _∷_}
@@ -15,22 +13,19 @@ use Rattle.record.proofs.is_operand.Tie as tie
 
 returns : tie.Need-returns
 returns c =
-    let s = c .before .before .before .before in
+    let value = c .before in
+    let parts = value .before in
+    let s = parts .before .before in
     let p : Parts = slotOf (s .args .d .insn) (s .args .k) in
-    let e = c .before .before .slot .ensures in
-    let r = c .before .value-of .result in
-    let low = c .before .value-of .ensures ∙ ap (λ (q : Parts). valueOf q % 2 ^ 64) e in
+    let e = parts .slot .ensures in
+    let r = value .value-of .result in
+    let low = value .value-of .ensures ∙ ap (λ (q : Parts). valueOf q % 2 ^ 64) e in
     in-other-words
-    (ap (λ (q : Parts). q .number ∷ q .first ∷ lowBytes 8 r) e ∙ ap (λ (m : List ℕ). p .number ∷ p .first ∷ m) (low8 r (valueOf p) low))
+    (ap (λ (q : Parts). q .number ∷ q .first ∷ lowBytes 8 r) e
+    ∙ ap (λ (m : List ℕ). p .number ∷ p .first ∷ m) (low8 r (valueOf p) low))
     (c .has-two .ensures)
 
 pub is-operand-spec : {M : Type 1} → statement M
-is-operand-spec =
-    tie.close
-    (tie.spec
-    (λ c. search needs)
-    (λ c. search needs)
-    (λ c κs. search needs)
-    (λ c κs. search needs)
-    (λ c κs. search needs)
+is-operand-spec = tie.close (tie.spec
+    (λ c. search needs) (λ c. search needs) (λ c κs. search needs) (λ c κs. search needs) (λ c κs. search needs)
     returns)

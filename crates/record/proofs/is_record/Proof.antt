@@ -1,39 +1,27 @@
--- `record::is_record` meets its contract.
--- Assumes nothing.
 use borrow.Author.Needs.{needs}
-use Rattle.reading.proofs.Same.{differs, said-no, said-yes}
+use borrow.Author.Tests.{eq-eqb}
+use Rattle.laws.proofs.Says.{differs, ends-no, decides}
 use Rattle.record.proofs.is_record.Statement.{statement}
 use Rattle.record.proofs.is_record.Tie as tie
 
+-- all but the operands are as the reading says
 returns : tie.Need-returns
-returns c = differs (λ h. h .named (c .if1 .taken))
-
-returns-2 : tie.Need-returns-2
-returns-2 c = differs (λ h. said-no (c .before .is-head .ensures) (c .if2 .taken) (h .head))
-
-returns-3 : tie.Need-returns-3
-returns-3 c = differs (λ h. said-no (c .before .is-effect .ensures) (c .if3 .taken) (h .effect))
-
-returns-4 : tie.Need-returns-4
-returns-4 c = (
-  λ t.
-      record {
-        named = c .before .before .before .before .before .if1 .left;
-        head = said-yes (c .before .before .before .before .is-head .ensures) (c .before .before .before .if2 .left);
-        effect = said-yes (c .before .before .is-effect .ensures) (c .before .if3 .left);
-        operands = c .are-operands .ensures .0 t;
-      },
-  λ h. c .are-operands .ensures .1 (h .operands),
-)
+returns c =
+    let effect = c .before in
+    let head = effect .before .before in
+    let named = head .before .before in
+    decides (c .are-operands .ensures) (λ h. h .operands)
+    (λ os. record {
+      named = named .if1 .taken;
+      head = head .before .is-head .ensures .0 (head .if2 .taken);
+      effect = effect .before .is-effect .ensures .0 (effect .if3 .taken);
+      operands = os;
+    })
 
 pub is-record-spec : {M : Type 1} → statement M
-is-record-spec =
-    tie.close
-    (tie.spec
+is-record-spec = tie.close (tie.spec
+    (λ c κs. search needs) (λ c κs. search needs) (λ c κs. search needs)
     returns
-    (λ c κs. search needs)
-    returns-2
-    (λ c κs. search needs)
-    returns-3
-    (λ c κs. search needs)
-    returns-4)
+    (λ c. ends-no (c .before .is-effect .ensures) (λ h. h .effect) (c .if3 .left))
+    (λ c. ends-no (c .before .is-head .ensures) (λ h. h .head) (c .if2 .left))
+    (λ c. rw (eq-eqb _ _ (c .if1 .left)) (differs (λ h. h .named (c .if1 .left)))))

@@ -1,5 +1,3 @@
--- `record::marks` meets its contract.
--- Assumes nothing.
 use borrow.Author.Needs.{needs}
 use Rattle.record.proofs.marks.Statement.{statement}
 use Rattle.record.proofs.marks.Tie as tie
@@ -17,11 +15,8 @@ returns-4 : tie.Need-returns-4
 returns-4 c = rw (c .if2 .left, c .before .enum-told2 .given .1)
 
 pub marks-spec : {M : Type 1} → statement M
-marks-spec =
-    tie.close
-    (tie.spec
-    (λ c. search needs)
-    (λ c. search needs)
+marks-spec = tie.close (tie.spec
+    (λ c. search needs) (λ c. search needs)
     returns
     returns-2
     returns-3

@@ -1,5 +1,3 @@
--- `record::name` meets its contract.
--- Assumes nothing.
 use borrow.Author.Needs.{needs}
 use native.Mathlib.Omega.{arith}
 use Rattle.names.specs.Names.{nameBytes}
@@ -10,16 +8,13 @@ use Rattle.record.proofs.name.Tie as tie
 
 returns : tie.Need-returns
 returns c =
-    let s = c .before .before .before .before .before .before .before .before in
+    let put = c .before .before in
+    let name = put .before .before .before in
+    let s = name .before .before .before in
     let k = s .args .d .insn .mnemonic in
-    first-at 64 (nameBytes k) (s .args .out .now) (omega (arith, name-long k)) (c .before .before .before .before .before .name-of .ensures) (c .before .before .put .ensures)
+    first-at 64 (nameBytes k) (s .args .out .now) (omega (arith, name-long k)) (name .name-of .ensures) (put .put .ensures)
 
 pub name-spec : {M : Type 1} → statement M
-name-spec =
-    tie.close
-    (tie.spec
-    (λ c κs. search needs)
-    (λ c. search needs)
-    (λ c κs. search needs)
-    (λ c. search needs)
+name-spec = tie.close (tie.spec
+    (λ c κs. search needs) (λ c. search needs) (λ c κs. search needs) (λ c. search needs)
     returns)

@@ -1,5 +1,3 @@
--- `record::operands` meets its contract.
--- Assumes nothing.
 use borrow.Author.Needs.{needs}
 use mathlib.Core.Path.{refl}
 use mathlib.Core.List.{List, _++_}
@@ -12,7 +10,11 @@ use Rattle.record.proofs.operands.Tie as tie
 
 returns : tie.Need-returns
 returns c =
-    let s = c .before .before .before .before .before .before .before .before .before .before .before .before .before .before .before .before .before in
+    let fourth = c .before .before in
+    let third = fourth .before .before .before .before in
+    let second = third .before .before .before .before in
+    let first = second .before .before .before .before in
+    let s = first .before .before .before in
     let d = s .args .out .now in
     let i = s .args .d .insn in
     let s₀ : List ℕ = slotBytes (slotOf i 0) in
@@ -20,17 +22,11 @@ returns c =
     let s₂ : List ℕ = slotBytes (slotOf i 2) in
     then-at 24 54 (s₀ ++ s₁ ++ s₂) (slotBytes (slotOf i 3)) d refl (omega arith)
     (then-at 24 44 (s₀ ++ s₁) s₂ d refl (omega arith)
-    (then-at 24 34 s₀ s₁ d refl (omega arith) (c .before .before .before .before .before .before .before .before .before .before .before .before .before .before .operand .ensures) (c .before .before .before .before .before .before .before .before .before .before .operand2 .ensures))
-    (c .before .before .before .before .before .before .operand3 .ensures))
-    (c .before .before .operand4 .ensures)
+    (then-at 24 34 s₀ s₁ d refl (omega arith) (first .operand .ensures) (second .operand2 .ensures))
+    (third .operand3 .ensures))
+    (fourth .operand4 .ensures)
 
 pub operands-spec : {M : Type 1} → statement M
-operands-spec =
-    tie.close
-    (tie.spec
-    (λ c κs. search needs)
-    (λ c κs. search needs)
-    (λ c κs. search needs)
-    (λ c κs. search needs)
-    (λ c. search needs)
+operands-spec = tie.close (tie.spec
+    (λ c κs. search needs) (λ c κs. search needs) (λ c κs. search needs) (λ c κs. search needs) (λ c. search needs)
     returns)

@@ -1,5 +1,3 @@
--- `record::pack` meets its contract.
--- Assumes nothing.
 use borrow.Author.Needs.{needs}
 use mathlib.Core.Path.{refl, sym, ap, _∙_}
 use mathlib.Core.List.{List, _++_}
@@ -21,36 +19,40 @@ returns c = rw (lt-ltb _ _ (c .if1 .taken)) (refl, refl)
 
 returns-2 : tie.Need-returns-2
 returns-2 c =
-    let s = c .before .before .before .before .before .before .before .before in
+    let put = c .before .before in
+    let refused = put .before .before in
+    let long = refused .before .before in
+    let s = long .before .before in
     let d = s .args .out .now in
-    rw (le-ltb (length d) 80 (c .before .before .before .before .before .before .if1 .left))
-    (refl, c .before .before .refuse .ensures ∙ ap (λ (l : List ℕ). over l d) (sym (refused-bytes (s .args .d) (c .before .before .before .before .if2 .taken))))
+    rw (le-ltb (length d) 80 (long .if1 .left)) (
+      refl,
+      put .refuse .ensures ∙ ap (λ (l : List ℕ). over l d) (sym (refused-bytes (s .args .d) (refused .if2 .taken))),
+    )
 
 returns-3 : tie.Need-returns-3
 returns-3 c =
-    let s = c .before .before .before .before .before .before .before .before .before .before .before .before .before .before .before .before in
+    let name-put = c .before .before in
+    let operands-put = name-put .before .before .before .before in
+    let front-put = operands-put .before .before .before .before in
+    let accepted = front-put .before .before in
+    let long = accepted .before .before in
+    let s = long .before .before in
     let d = s .args .out .now in
     let i = s .args .d .insn in
-    let e = c .before .before .before .before .before .before .before .before .before .before .before .before .if2 .left in
+    let e = accepted .if2 .left in
     let p : List ℕ = headBytes i ++ effectBytes (i .effect) in
-    rw (le-ltb (length d) 80 (c .before .before .before .before .before .before .before .before .before .before .before .before .before .before .if1 .left)) (
+    rw (le-ltb (length d) 80 (long .if1 .left)) (
       sym e,
       then-at 0 64 (p ++ operandBytes i) (nameBytes (i .mnemonic)) d refl (omega (arith, name-long (i .mnemonic)))
-          (then-at 0 24 p (operandBytes i) d refl (omega arith) (c .before .before .before .before .before .before .before .before .before .before .front .ensures) (c .before .before .before .before .before .before .operands .ensures))
-          (c .before .before .name .ensures)
+          (then-at 0 24 p (operandBytes i) d refl (omega arith) (front-put .front .ensures) (operands-put .operands .ensures))
+          (name-put .name .ensures)
           ∙ at-start (insnBytes i) d ∙ ap (λ (l : List ℕ). over l d) (sym (accepted-bytes (s .args .d) e)),
     )
 
 pub pack-spec : {M : Type 1} → statement M
-pack-spec =
-    tie.close
-    (tie.spec
+pack-spec = tie.close (tie.spec
     returns
-    (λ c κs. search needs)
-    (λ c. search needs)
+    (λ c κs. search needs) (λ c. search needs)
     returns-2
-    (λ c κs. search needs)
-    (λ c κs. search needs)
-    (λ c κs. search needs)
-    (λ c. search needs)
+    (λ c κs. search needs) (λ c κs. search needs) (λ c κs. search needs) (λ c. search needs)
     returns-3)

@@ -1,5 +1,3 @@
--- `record::signed` meets its contract.
--- Assumes nothing.
 use borrow.Author.Needs.{needs}
 use mathlib.Core.Path.{ap, _∙_}
 use native.Mathlib.Omega.{arith}
@@ -21,11 +19,7 @@ returns-2 c =
     ap (toZ w64) e ∙ signed-is v (search needs)
 
 pub signed-spec : {M : Type 1} → statement M
-signed-spec =
-    tie.close
-    (tie.spec
-    (λ c. search needs)
-    (λ c. search needs)
-    (λ c. search needs)
+signed-spec = tie.close (tie.spec
+    (λ c. search needs) (λ c. search needs) (λ c. search needs)
     returns
     returns-2)

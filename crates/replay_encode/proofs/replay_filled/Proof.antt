@@ -1,5 +1,4 @@
--- `replay_encode::replay_filled` meets its contract: the filled part is as long as what was filled, and no more is moved than there is.
--- Assumes nothing.
+-- The filled part is as long as what was filled, and no more is moved than there is.
 use borrow.Author.Needs.{needs}
 use denote.Ref.{now}
 use lib.Seq.{length-take-le}
@@ -20,12 +19,8 @@ returns c =
     rw (m .move-to-start .ensures .0) (part-most (r .replay-lines .result .at) (a .filled) (now (a .buffer)))
 
 pub replay-filled-spec : {M : Type 1} → statement M
-replay-filled-spec =
-    tie.close
-    (tie.spec
+replay-filled-spec = tie.close (tie.spec
     (λ c. search needs)
     slice-aggregate-replay-lines
-    (λ c κs. search needs)
-    (λ c κs. search needs)
-    (λ c. search needs)
+    (λ c κs. search needs) (λ c κs. search needs) (λ c. search needs)
     returns)

@@ -1,5 +1,4 @@
--- `replay_encode::replay_lines` meets its contract: a line ends inside the bytes, and not before it begins.
--- Assumes nothing.
+-- A line ends inside the bytes, and not before it begins.
 use borrow.Author.Needs.{needs}
 use Prim.Native.Nat.{_≤_, _-_}
 use native.Mathlib.Omega.{arith}
@@ -23,13 +22,10 @@ ended c =
     rw (c .line-end .ensures) (end-after (l .loop .at) s (omega arith), end-most (l .loop .at) s)
 
 pub replay-lines-spec : {M : Type 1} → statement M
-replay-lines-spec =
-    tie.close
-    (tie.spec
+replay-lines-spec = tie.close (tie.spec
     Inv-loop
     μ-loop
-    (λ c. search needs)
-    (λ c κs. search needs)
+    (λ c. search needs) (λ c κs. search needs)
     (λ c. omega (arith, ended (c .before)))
     (λ c. omega (arith, ended (c .before)))
     (λ c. omega (arith, ended (c .before)))

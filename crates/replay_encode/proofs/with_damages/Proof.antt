@@ -10,14 +10,8 @@ abbrev μ-loop : tie.MeasureT-loop
 μ-loop q insn done₀ way₀ done way = 78 - way
 
 pub with-damages-spec : {M : Type 1} → statement M
-with-damages-spec =
-    tie.close
-    (tie.spec
+with-damages-spec = tie.close (tie.spec
     Inv-loop
     μ-loop
-    (λ c. search needs)
-    (λ c κs. search needs)
-    (λ c. search needs)
-    (λ c. search needs)
-    (λ c. search needs)
+    (λ c. search needs) (λ c κs. search needs) (λ c. search needs) (λ c. search needs) (λ c. search needs)
     (λ c. search needs))

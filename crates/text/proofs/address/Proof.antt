@@ -1,5 +1,3 @@
--- `text::address` meets its contract.
--- Assumes nothing.
 use borrow.Author.Needs.{needs}
 use mathlib.Core.Path.{_≡_, ap, _∙_}
 use mathlib.Core.List.{List, [], _∷_}
@@ -29,23 +27,16 @@ text w =
 
 returns : tie.Need-returns
 returns c =
-    let w = c .before .before .before .before .before .before in
+    let v = c .before .before .before in
+    let w = v .before .before .before in
     let a = w .before .before .before .args in
-    tail-put 22 (w .spell .result - 2) (a .at) (room w) (addressOf (a .a)) (a .out .now) (long w) (text w) (c .before .before .put .ensures)
+    tail-put 22 (w .spell .result - 2) (a .at) (room w) (addressOf (a .a)) (a .out .now) (long w) (text w)
+    (c .before .before .put .ensures)
 
 pub address-spec : {M : Type 1} → statement M
-address-spec =
-    tie.close
-    (tie.spec
-    (λ c κs. search needs)
-    (λ c. search needs)
-    (λ c. search needs)
-    (λ c. search needs)
-    (λ c. search needs)
-    (λ c. search needs)
-    (λ c. search needs)
+address-spec = tie.close (tie.spec
+    (λ c κs. search needs) (λ c. search needs) (λ c. search needs) (λ c. search needs) (λ c. search needs)
+    (λ c. search needs) (λ c. search needs)
     (λ c. simp length-set (omega arith))
-    (λ c κs. search needs)
-    (λ c. search needs)
-    (λ c. search needs)
+    (λ c κs. search needs) (λ c. search needs) (λ c. search needs)
     returns)

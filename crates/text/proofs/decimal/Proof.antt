@@ -1,5 +1,3 @@
--- `text::decimal` meets its contract.
--- Assumes nothing.
 use borrow.Author.Needs.{needs}
 use mathlib.Core.Path.{_≡_, refl, ap, subst, _∙_}
 use mathlib.Core.Bool.{Bool, true, false}
@@ -29,10 +27,15 @@ unfolding decimalOf
 without (pos n) e = refl
 without (negsuc n) e = let z : _≡_ {A = Bool} true false = e in absurd (subst T z tt)
 
+-- where the function starts
+abbrev start : tie.After-spell → tie.Start
+start w = let m = w .before .before in m .before .before
+
 -- the numeral is that of how far x is from 0
-numeral : (w : tie.After-spell) → let z = w .before .before .before .before .args .x in drop (w .spell .result) (w .spell .last .1 .1 .0) ≡ numeralOf 10 (natAbs z)
+numeral : (w : tie.After-spell) →
+    drop (w .spell .result) (w .spell .last .1 .1 .0) ≡ numeralOf 10 (natAbs (start w .args .x))
 numeral w =
-    let s = w .before .before .before .before in
+    let s = start w in
     w .spell .ensures .3 ∙ ap (numeralOf 10) (w .before .before .magnitude .ensures ∙ ap natAbs (toZ-ofZ (s .fits .x)))
 
 -- where the text starts, and the room that it ends
@@ -41,10 +44,10 @@ record Text (start : ℕ) (b : List ℕ) (z : ℤ) : Type 0 where
   long : length b ≡ 22
   text : drop start b ≡ decimalOf z
 
-joined : (j : tie.Joined1) → Text (j .if1 .start) (j .if1 .b) (j .before .before .before .before .before .args .x)
+joined : (j : tie.Joined1) → Text (j .if1 .start) (j .if1 .b) (start (j .before) .args .x)
 joined j =
     let w = j .before in
-    let s = w .before .before .before .before in
+    let s = start w in
     let r = w .spell .result in
     let b = w .spell .last .1 .1 .0 in
     let e : r - 1 + 1 ≡ r = omega arith in
@@ -64,22 +67,20 @@ joined j =
 
 returns : tie.Need-returns
 returns c =
-    let j = c .before .before .before .before .before .before .before in
-    let a = j .before .before .before .before .before .args in
-    tail-put 22 (j .if1 .start) (a .at) (j .if1 .b) (decimalOf (a .x)) (a .out .now) (joined j .long) (joined j .text) (c .before .before .put .ensures)
+    let v = c .before .before .before in
+    let w = v .before .before .before in
+    let j = w .before in
+    let a = start (j .before) .args in
+    tail-put 22 (j .if1 .start) (a .at) (j .if1 .b) (decimalOf (a .x)) (a .out .now) (joined j .long) (joined j .text)
+    (c .before .before .put .ensures)
 
 pub decimal-spec : {M : Type 1} → statement M
-decimal-spec =
-    tie.close
-    (tie.spec
-    (λ c κs. search needs)
-    (λ c κs. search needs)
-    (λ c. search needs)
-    (λ c. search needs)
+decimal-spec = tie.close (tie.spec
+    (λ c κs. search needs) (λ c κs. search needs) (λ c. search needs) (λ c. search needs)
     (λ c. joined (c .before) .low)
     (λ c. joined (c .before .before) .low)
     (λ c. omega (arith, joined (c .before .before) .long))
     (λ c κs. search needs)
-    (λ c. joined (c .before .before .before .before .before .before .before) .low)
+    (λ c. let v = c .before .before .before in let w = v .before .before .before in joined (w .before) .low)
     (λ c. search needs)
     returns)

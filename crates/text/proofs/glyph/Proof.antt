@@ -1,18 +1,10 @@
--- `text::glyph` meets its contract.
--- Assumes nothing.
 use borrow.Author.Needs.{needs}
 use borrow.Author.Tests.{lt-ltb, le-ltb}
 use Rattle.text.proofs.glyph.Statement.{statement}
 use Rattle.text.proofs.glyph.Tie as tie
 
 pub glyph-spec : {M : Type 1} → statement M
-glyph-spec =
-    tie.close
-    (tie.spec
-    (λ c. search needs)
-    (λ c. search needs)
-    (λ c. search needs)
-    (λ c. search needs)
-    (λ c. search needs)
+glyph-spec = tie.close (tie.spec
+    (λ c. search needs) (λ c. search needs) (λ c. search needs) (λ c. search needs) (λ c. search needs)
     (λ c. rw (lt-ltb _ _ (c .if1 .taken)))
     (λ c. rw (le-ltb _ _ (c .if1 .left))))

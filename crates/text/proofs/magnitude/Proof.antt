@@ -1,5 +1,4 @@
 -- `text::magnitude` meets its contract: `!x` is how far a negative x is below -1.
--- Assumes nothing.
 use mathlib.Core.Path.{_≡_, refl, ap, subst, _∙_}
 use mathlib.Core.Bool.{Bool, true, false}
 use Prim.Native.Nat.{suc, _+_, _-_, _^_}
@@ -42,9 +41,7 @@ abbrev flip : (c : tie.Then1) → toZ w64 (18446744073709551615 - ofZ w64 (c .be
 flip c = flipped (c .before .args .x) (c .before .fits .x) (below c)
 
 pub magnitude-spec : {M : Type 1} → statement M
-magnitude-spec =
-    tie.close
-    (tie.spec
+magnitude-spec = tie.close (tie.spec
     (λ c. rw (flip c) (tt, record { fits = omega (arith, c .before .fits .x .sfits) }))
     (λ c. rw (flip c) (record { fits = omega (arith, c .before .fits .x .sfits) }))
     (λ c. rw (toZ-ofZ (c .before .fits .x)) (not-below (c .before .args .x) (above c), fits-natAbs {w = w64} {w′ = w64} tt (c .before .fits .x)))

@@ -1,5 +1,4 @@
 -- `text::spell` meets its contract: the digits that are left and those that are written are all of them.
--- Assumes nothing.
 use borrow.Author.Needs.{needs}
 use mathlib.Core.Path.{_≡_, sym, ap, _∙_}
 use mathlib.Core.List.{List, [], _∷_, _++_}
@@ -28,9 +27,12 @@ loop-holds c =
 
 loop-again : tie.Need-loop-again Inv-loop μ-loop
 loop-again c =
-    let l = c .before .before .before .loop in
-    let a = c .before .before .before .before .before .args in
-    let moved = last-moved (a .base) (l .i) (l .rest) (c .glyph2 .result) (l .b) (c .before .if1 .left) (l .inv .0) (omega arith) (c .before .before .loop-test .taken) (c .glyph2 .ensures) in
+    let w = c .before .before .before in
+    let l = w .loop in
+    let a = w .before .before .args in
+    let moved =
+    last-moved (a .base) (l .i) (l .rest) (c .glyph2 .result) (l .b) (c .before .if1 .left) (l .inv .0) (omega arith)
+    (c .before .before .loop-test .taken) (c .glyph2 .ensures) in
     (omega arith, omega arith, simp length-set (l .inv .2), moved ∙ l .inv .3)
 
 returns : tie.Need-returns Inv-loop μ-loop
@@ -41,27 +43,25 @@ returns c =
 
 returns-2 : tie.Need-returns-2 Inv-loop μ-loop
 returns-2 c =
-    let l = c .before .before .loop in
-    let a = c .before .before .before .before .args in
+    let w = c .before .before in
+    let l = w .loop in
+    let a = w .before .before .args in
     (l .inv .0, omega arith, l .inv .2, ap (λ (z : List ℕ). z ++ drop (l .i) (l .b)) (sym (last-full (a .base) (l .i - 2) (l .rest) (omega arith))) ∙ l .inv .3)
 
 pub spell-spec : {M : Type 1} → statement M
-spell-spec =
-    tie.close
-    (tie.spec
+spell-spec = tie.close (tie.spec
     Inv-loop
     μ-loop
-    (λ c. search needs)
-    (λ c. search needs)
-    (λ c. search needs)
+    (λ c. search needs) (λ c. search needs) (λ c. search needs)
     (λ c κs. let m = mod-lt (c .args .n) {m = c .args .base} (omega arith) in omega arith)
     (λ c. search needs)
     loop-holds
-    (λ c. search needs)
-    (λ c. search needs)
-    (λ c κs. let m = mod-lt (c .before .before .loop .rest) {m = c .before .before .before .before .args .base} (omega arith) in omega arith)
-    (λ c. search needs)
-    (λ c. search needs)
+    (λ c. search needs) (λ c. search needs)
+    (λ c κs.
+    let w = c .before .before in
+    let m = mod-lt (w .loop .rest) {m = w .before .before .args .base} (omega arith) in
+    omega arith)
+    (λ c. search needs) (λ c. search needs)
     (λ c. omega arith)
     loop-again
     returns

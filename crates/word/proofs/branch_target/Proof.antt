@@ -21,12 +21,8 @@ returns c =
     ∙ sym (branch-is (c .before .before .before .before .args .va) _))
 
 pub branch-target-spec : {M : Type 1} → statement M
-branch-target-spec =
-    tie.close
-    (tie.spec
+branch-target-spec = tie.close (tie.spec
     (λ c κs. search needs)
     mul-offset
-    (λ c κs. search needs)
-    (λ c κs. search needs)
-    (λ c κs. search needs)
+    (λ c κs. search needs) (λ c κs. search needs) (λ c κs. search needs)
     returns)

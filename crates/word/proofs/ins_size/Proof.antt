@@ -17,11 +17,7 @@ returns c =
     ∙ sym (size-is (bits 15 11 (c .args .w)) (bits 10 6 (c .args .w)))
 
 pub ins-size-spec : {M : Type 1} → statement M
-ins-size-spec =
-    tie.close
-    (tie.spec
-    (λ c. search needs)
-    (λ c. search needs)
-    (λ c. search needs)
+ins-size-spec = tie.close (tie.spec
+    (λ c. search needs) (λ c. search needs) (λ c. search needs)
     sub-result
     returns)

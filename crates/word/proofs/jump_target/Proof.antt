@@ -13,13 +13,7 @@ unfolding jumpTo
 returns c = omega arith
 
 pub jump-target-spec : {M : Type 1} → statement M
-jump-target-spec =
-    tie.close
-    (tie.spec
-    (λ c κs. search needs)
-    (λ c. search needs)
-    (λ c κs. search needs)
-    (λ c. search needs)
-    (λ c. search needs)
+jump-target-spec = tie.close (tie.spec
+    (λ c κs. search needs) (λ c. search needs) (λ c κs. search needs) (λ c. search needs) (λ c. search needs)
     add-result
     returns)

@@ -3,7 +3,7 @@ use mir.Syntax.{w64}
 use mir.Facts.{toZ-ofZ}
 use borrow.Author.Needs.{needs}
 use Rattle.word.specs.Numbers.{modulo64}
-use Rattle.inverse.proofs.Fill.{numberOf}
+use Rattle.inverse.specs.Private.Fill.{numberOf}
 use Rattle.encode.proofs.put.number_of.Statement.{statement}
 use Rattle.encode.proofs.put.number_of.Tie as tie
 
@@ -19,22 +19,10 @@ returns-4 c =
     ∙ (ap modulo64 (toZ-ofZ {w = w64} {z = c .before .before .o4 .given .0 .0} (search needs)) ∙ ap numberOf (sym (c .before .before .o4 .given .1)))
 
 pub number-of-spec : {M : Type 1} → statement M
-number-of-spec =
-    tie.close
-    (tie.spec
-    (λ c. search needs)
-    (λ c. search needs)
-    (λ c. search needs)
-    (λ c. search needs)
-    (λ c. search needs)
-    (λ c κs. search needs)
-    (λ c. search needs)
-    (λ c κs. search needs)
-    (λ c. search needs)
-    (λ c. search needs)
-    (λ c. search needs)
-    (λ c. search needs)
-    (λ c. search needs)
+number-of-spec = tie.close (tie.spec
+    (λ c. search needs) (λ c. search needs) (λ c. search needs) (λ c. search needs) (λ c. search needs)
+    (λ c κs. search needs) (λ c. search needs) (λ c κs. search needs) (λ c. search needs) (λ c. search needs)
+    (λ c. search needs) (λ c. search needs) (λ c. search needs)
     returns-3
     returns-4
     (λ c. search needs)

@@ -2,7 +2,7 @@ use Prim.Native.Nat.{ℕ, _+_, _-_, _/_, _%_, _^_, _<_}
 use mathlib.Core.Path.{_≡_, _∙_, ap, ap₂}
 use native.Mathlib.Omega.{arith}
 use borrow.Author.Needs.{needs}
-use Rattle.inverse.proofs.Fill.{branchBack}
+use Rattle.inverse.specs.Private.Fill.{branchBack}
 use Rattle.encode.proofs.put.offset.Statement.{statement}
 use Rattle.encode.proofs.put.offset.Tie as tie
 

@@ -1,5 +1,4 @@
 -- `kind::all` meets its contract: the constants of the code are the kinds of the definition, one by one.
--- Assumes nothing.
 use mathlib.Core.Path.{refl}
 use Rattle.reading.specs.Kind.{kinds}
 use Rattle.reading.proofs.kind.all.Statement.{statement}

@@ -10,18 +10,9 @@ abbrev μ-loop : tie.MeasureT-loop
 μ-loop a b i₀ i = 23 - i
 
 pub first-difference-spec : {M : Type 1} → statement M
-first-difference-spec =
-    tie.close
-    (tie.spec
+first-difference-spec = tie.close (tie.spec
     Inv-loop
     μ-loop
-    (λ c. search needs)
-    (λ c. search needs)
-    (λ c. search needs)
-    (λ c. search needs)
-    (λ c. search needs)
-    (λ c. search needs)
-    (λ c. search needs)
-    (λ c. search needs)
-    (λ c. search needs)
+    (λ c. search needs) (λ c. search needs) (λ c. search needs) (λ c. search needs) (λ c. search needs)
+    (λ c. search needs) (λ c. search needs) (λ c. search needs) (λ c. search needs)
     (λ c. search needs))

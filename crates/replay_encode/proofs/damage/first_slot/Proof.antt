@@ -10,16 +10,9 @@ abbrev μ-loop : tie.MeasureT-loop
 μ-loop insn part slot₀ slot = 4 - slot
 
 pub first-slot-spec : {M : Type 1} → statement M
-first-slot-spec =
-    tie.close
-    (tie.spec
+first-slot-spec = tie.close (tie.spec
     Inv-loop
     μ-loop
-    (λ c. search needs)
-    (λ c κs. search needs)
-    (λ c κs. search needs)
-    (λ c. search needs)
-    (λ c. search needs)
-    (λ c. search needs)
-    (λ c. search needs)
+    (λ c. search needs) (λ c κs. search needs) (λ c κs. search needs) (λ c. search needs) (λ c. search needs)
+    (λ c. search needs) (λ c. search needs)
     (λ c. search needs))

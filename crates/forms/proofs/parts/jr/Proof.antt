@@ -1,0 +1,11 @@
+use borrow.Author.Tests.{eq-eqb, ne-eqb}
+use borrow.Author.Needs.{needs}
+use Rattle.forms.proofs.parts.jr.Statement.{statement}
+use Rattle.forms.proofs.parts.jr.Tie as tie
+
+pub jr-spec : {M : Type 1} → statement M
+jr-spec = tie.close (tie.spec
+    (λ c κs. search needs)
+    (λ c. rw (c .turn .ensures, eq-eqb _ 31 (c .before .if1 .taken)))
+    (λ c κs. search needs)
+    (λ c. rw (c .turn2 .ensures, ne-eqb _ 31 (c .before .if1 .left))))

@@ -1,0 +1,3 @@
+pub mod Tests
+pub mod Says
+pub mod Walk

@@ -1,0 +1,4 @@
+pub mod Lines
+pub mod Page
+pub mod Theorems
+pub mod Private

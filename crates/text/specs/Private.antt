@@ -1,2 +1,0 @@
--- What private functions promise each other. No public contract cites these files; nobody need believe them.
-pub mod Writes
