@@ -1,5 +1,5 @@
 /* Calmuredda for a host program in C: a word of MIPS code to a packed record, a record back to its smallest word or to
-   its printed line; section files, and the blocks and listing pages of their bodies.
+   its printed line; section files, the blocks and listing pages of their bodies, and listings of whole files.
 
    Link with libcalmuredda.a, which is for x86-64 and the System V calling convention. The library allocates nothing,
    keeps no pointer and has no state; of the C library it needs memcpy and memset at most. What is lent to a call is
@@ -33,7 +33,7 @@ enum {
     CALMUREDDA_SPECIAL3 = 8,
     CALMUREDDA_NO_WORD = 9,       /* no word has the record at that address under that flag, or no reading has it */
     CALMUREDDA_NO_LINE = 10,      /* over 4 operands, or a register above 31 in one that is used */
-    CALMUREDDA_NO_ROOM = 11,      /* the line, or the first line of a page, has no room */
+    CALMUREDDA_NO_ROOM = 11,      /* the line, or the first line of a page or piece, has no room */
     CALMUREDDA_BAD_HEADER = 12,   /* a file's length, count, flags or total, or its records are cut off */
     CALMUREDDA_BAD_RECORD = 13,   /* a record of a file breaks its rules */
     CALMUREDDA_NO_SECTION = 14,   /* the file is good and has no section of that number */
@@ -191,6 +191,30 @@ uint8_t calmuredda_page(const uint8_t *body, size_t body_len, uint64_t va, uint8
                         uint8_t *out, size_t out_len, size_t place, size_t *words, size_t *bytes);
 
 enum { CALMUREDDA_PAGE_LINE_BYTES = 147 };
+
+/* Lists a whole section file piece by piece. All pieces together are what the program `sweep` writes for the file.
+
+   The cursor is two numbers, section and line. Line 0 of section N is `section N words M`, and line w + 1 is that of
+   its word w, as in a page. In the place of one more section, line 0 is the last line of all, `words W refused R`. A
+   file that is not good, such as any of 65,536 bytes or more, has no sections: its only line, line 0 of section 0, is
+   `file refused N` with the number that calmuredda_section_check answers. Each line ends with a newline.
+
+   It writes to the start of `out` the longest run of whole lines that fits, from the cursor on and of that one section.
+   Answers CALMUREDDA_ACCEPTED, sets *bytes to how many bytes that took, and *next_section and *next_line to where the
+   listing goes on: at the next line of the section, or at line 0 of section + 1 after its last line and after the last
+   line of all. All other bytes of `out` stay as they are. If the line at the cursor does not fit it answers
+   CALMUREDDA_NO_ROOM: nothing is written, *bytes is 0 and the next cursor is the same.
+
+   Any two numbers are a cursor. Where there is no line, nothing is left: whatever out_len is, it answers
+   CALMUREDDA_ACCEPTED, *bytes is 0 and the next cursor is the same. So a host starts with line 0 of section 0, or with
+   any other line, and goes on until *bytes is 0. Any line fits in CALMUREDDA_PAGE_LINE_BYTES; with that much room there
+   are at most as many pieces as lines, which are all words, all sections and one more.
+
+   `file` is only read. `file` and `out` must not overlap. The cursor is handed over by value, so the next one may be
+   written to the same variables. */
+uint8_t calmuredda_listing(const uint8_t *file, size_t file_len, size_t section, size_t line,
+                           uint8_t *out, size_t out_len,
+                           size_t *next_section, size_t *next_line, size_t *bytes);
 
 #ifdef __cplusplus
 }

@@ -20,7 +20,7 @@ enum {
     LENT_BYTES = 1 << 17, /* a multiple of every page size that is in use */
     ALIGNMENTS = 16,
     CANARY_BYTES = 64,
-    LONGEST_AREA = 1 << 16,
+    LONGEST_AREA = 1 << 17,
     PATTERNS = 251,
     NULL_INPUT_EVERY = 3 /* how often an empty slice is null */
 };

@@ -21,13 +21,14 @@ WRAPPED(uint64_t, section_address, const uint8_t *, size_t, size_t);
 WRAPPED(uint8_t, section_body, const uint8_t *, size_t, size_t, size_t *, size_t *);
 WRAPPED(uint8_t, block, const uint8_t *, size_t, uint64_t, uint8_t, size_t, uint8_t *, size_t *);
 WRAPPED(uint8_t, page, const uint8_t *, size_t, uint64_t, uint8_t, size_t, uint8_t *, size_t, size_t, size_t *, size_t *);
+WRAPPED(uint8_t, listing, const uint8_t *, size_t, size_t, size_t, uint8_t *, size_t, size_t *, size_t *, size_t *);
 
 /* The number in the environment's MISTAKE, from 1 to the last. */
 static int mistake_up_to(int last)
 {
     static int number;
-    const char *text = getenv("MISTAKE");
-    if (number == 0 && text != NULL) {
+    const char *text = number == 0 ? getenv("MISTAKE") : NULL;
+    if (text != NULL) {
         number = atoi(text);
     }
     if (number < 1 || number > last) {

@@ -4,7 +4,7 @@
     inputs.py ROOT
 
 writes a line `word` for each answer of tests/vectors/decode.txt, with its printed line, and a line `file` for each section file of
-tests/sweep, with what tests/sweep/expected.txt says of it.
+tests/sweep, with what tests/sweep/expected.txt says of it and of its listing.
 """
 import sys
 from pathlib import Path
@@ -31,7 +31,7 @@ def write_files():
     for name, data in cases(ROOT):
         if kept.digest(data) != expected[name].digest:
             sys.exit(f"{name} is another file than that of expected.txt")
-        print("file", name, data.hex() or "-", expected[name].file)
+        print("file", name, data.hex() or "-", expected[name].file, expected[name].output)
 
 
 write_words()

@@ -1,9 +1,11 @@
-/* Compares the library's section files, blocks, pages and lines with the answers on standard input, a line each; README.md says what
-   is in them. What a call writes to lies, in every second call, up to the end of what can be touched. */
+/* Compares the library's section files, their listings, blocks, pages and lines with the answers on standard input, a
+   line each; README.md says what is in them. What a call writes to lies, in every second call, up to the end of what
+   can be touched. */
 #define _GNU_SOURCE
 #include "../lent.h"
 #include "../splitmix.h"
 #include "calmuredda.h"
+#include "sha256.h"
 
 /* Once more, so that a header which says otherwise does not compile. */
 uint8_t calmuredda_line(const uint8_t *record, size_t record_len, uint8_t *out, size_t out_len, size_t *length);
@@ -16,6 +18,8 @@ uint8_t calmuredda_block(const uint8_t *body, size_t body_len, uint64_t va, uint
                          size_t *words);
 uint8_t calmuredda_page(const uint8_t *body, size_t body_len, uint64_t va, uint8_t flags, size_t index, uint8_t *out,
                         size_t out_len, size_t place, size_t *words, size_t *bytes);
+uint8_t calmuredda_listing(const uint8_t *file, size_t file_len, size_t section, size_t line, uint8_t *out,
+                           size_t out_len, size_t *next_section, size_t *next_line, size_t *bytes);
 
 enum {
     NO_READING = 9,
@@ -33,6 +37,12 @@ enum {
     LONGEST_BUFFER = 5000,
     SMALL_BODY = 12,            /* as many words have every index tried in every such buffer */
     RANDOM_PAGES = 20000,
+    SMALL_LISTING = 16,         /* as many lines have every cursor tried in every such buffer */
+    RANDOM_PIECES = 1000,
+    LAST_LINE_EVERY = 200,      /* it is the one that all words are read for */
+    WINDOW = 4096,
+    LONGEST_WINDOW = 1 << 16,
+    MOST_LINES = (1 << 16) / WORD_BYTES + MOST_SECTIONS + 1,
     SHORT_RECORDS_EVERY = 16,
 
     AREA_BYTES = LONGEST_AREA,  /* a multiple of every page size that is in use */
@@ -55,11 +65,18 @@ static const size_t huge[] = {
 };
 enum { HUGE = sizeof huge / sizeof huge[0] };
 
+/* What is left of these in 8, 16 or 32 bits is small. */
+static const size_t cut[] = {
+    (size_t)1 << 8,  ((size_t)1 << 8) + 1,  (size_t)1 << 16, ((size_t)1 << 16) + 1,
+    (size_t)1 << 32, ((size_t)1 << 32) + 1,
+};
+enum { CUT = sizeof cut / sizeof cut[0] };
+
 /* Bits of the flags that mean nothing: none of them, each by itself, and all. */
 static const uint8_t other_bits[] = {0, 4, 8, 16, 32, 64, 128, 252};
 
 static uint64_t complaints;
-static uint64_t blocks_asked, pages_asked, lines_asked, files_asked;
+static uint64_t blocks_asked, pages_asked, lines_asked, files_asked, pieces_asked;
 
 static void malformed(const char *what)
 {
@@ -526,6 +543,7 @@ static void read_sections(char *text)
     }
 }
 
+/* What is left of the line is the listing, or its digest. */
 static void read_file(void)
 {
     column();
@@ -554,22 +572,261 @@ static void check_section(const uint8_t *bytes, size_t n)
     same("a section's address is", calmuredda_section_address(bytes, file.length, n), wanted->address);
 }
 
-/* `file`: a section file and what is known of it. */
+static void check_sections(const uint8_t *bytes)
+{
+    same("the file's number is", calmuredda_section_check(bytes, file.length), file.number);
+    same("the file's count is", calmuredda_section_count(bytes, file.length), file.count);
+    same("the file's flags are", calmuredda_section_flags(bytes, file.length), file.flags);
+    for (size_t n = 0; n <= MOST_SECTIONS + 1; n++) {
+        check_section(bytes, n);
+    }
+    for (int i = 0; i < HUGE; i++) {
+        check_section(bytes, huge[i]);
+    }
+}
+
+/* ── listings ── */
+
+struct cursor {
+    size_t section;
+    size_t line;
+};
+
+/* What is known of the file's listing. */
+static struct {
+    uint8_t text[MOST_LINES * LONGEST_TEXT];
+    size_t length;
+    size_t starts[MOST_LINES + 1];   /* where each line begins in `text` */
+    size_t first[MOST_SECTIONS + 2]; /* which line of all is the first of each section */
+} listing;
+
+/* A section has a line more than words; in the place of one more section is the last line of all. */
+static void number_lines(void)
+{
+    listing.first[0] = 0;
+    for (size_t n = 0; n < file.count; n++) {
+        listing.first[n + 1] = listing.first[n] + 1 + file.sections[n].length / WORD_BYTES;
+    }
+    listing.first[file.count + 1] = listing.first[file.count] + 1;
+}
+
+static size_t all_lines(void)
+{
+    return listing.first[file.count + 1];
+}
+
+static size_t lines_of(size_t section)
+{
+    return section > file.count ? 0 : listing.first[section + 1] - listing.first[section];
+}
+
+/* A listing in brackets, with | for the end of a line. */
+static void take_text(const char *shown)
+{
+    listing.length = strlen(shown) - 2;
+    if (listing.length > sizeof listing.text || shown[listing.length + 1] != ']') {
+        malformed("no listing");
+    }
+    for (size_t i = 0; i < listing.length; i++) {
+        listing.text[i] = (uint8_t)(shown[i + 1] == '|' ? '\n' : shown[i + 1]);
+    }
+}
+
+/* The listing as the library writes it. */
+static void gather_text(const uint8_t *bytes)
+{
+    size_t section = 0, line = 0, got;
+    listing.length = 0;
+    do {
+        uint8_t *end = listing.text + listing.length;
+        calmuredda_listing(bytes, file.length, section, line, end, WINDOW, &section, &line, &got);
+        listing.length += got;
+    } while (got > 0 && got <= WINDOW && listing.length + WINDOW <= sizeof listing.text);
+}
+
+/* Where only the digest of the listing is known it says that the library writes the right one. */
+static int find_text(const uint8_t *bytes, const char *shown)
+{
+    uint8_t digest[SHA256_BYTES];
+    uint64_t differ = 0;
+    if (shown[0] == '[') {
+        take_text(shown);
+        return 1;
+    }
+    if (strlen(shown) != 2 * SHA256_BYTES) {
+        malformed("no digest");
+    }
+    gather_text(bytes);
+    sha256(listing.text, listing.length, digest);
+    for (int i = 0; i < SHA256_BYTES; i++) {
+        differ += digest[i] != digit(shown[2 * i]) * 16 + digit(shown[2 * i + 1]);
+    }
+    same("how many bytes of the listing's digest differ:", differ, 0);
+    return differ == 0;
+}
+
+static void split_text(void)
+{
+    size_t lines = 0;
+    for (size_t i = 0; i < listing.length; i++) {
+        if (listing.text[i] == '\n' && lines < MOST_LINES) {
+            lines++;
+            listing.starts[lines] = i + 1;
+        }
+    }
+    if (lines != all_lines() || listing.starts[lines] != listing.length) {
+        malformed("not a line for each section and word, and one more");
+    }
+}
+
+/* What a call answers, and where in the listing the lines stand that it writes. */
+struct piece {
+    uint8_t number;
+    size_t bytes;
+    struct cursor next;
+    const uint8_t *text;
+};
+
+/* What is wanted of a piece, of the rule: the longest run of whole lines of the section that fits. */
+static struct piece wanted_piece(struct cursor at, size_t room)
+{
+    struct piece piece = {.next = at, .text = listing.text};
+    size_t lines = lines_of(at.section);
+    if (at.line >= lines) {
+        return piece;
+    }
+    const size_t *starts = listing.starts + listing.first[at.section] + at.line;
+    size_t left = lines - at.line, taken = 0;
+    while (taken < left && starts[taken + 1] - starts[0] <= room) {
+        taken++;
+    }
+    piece.number = taken == 0 ? NO_ROOM : 0;
+    piece.bytes = starts[taken] - starts[0];
+    piece.text = listing.text + starts[0];
+    piece.next.line += taken;
+    if (taken == left) {
+        piece.next = (struct cursor){at.section + 1, 0};
+    }
+    return piece;
+}
+
+static struct piece check_piece(const uint8_t *bytes, struct cursor at, size_t room)
+{
+    struct piece wanted = wanted_piece(at, room);
+    struct piece got = {.bytes = 99, .next = {99, 99}, .text = wanted.text};
+    struct buffer buffer = lend_buffer(room);
+    got.number = calmuredda_listing(bytes, file.length, at.section, at.line, buffer.bytes, room, &got.next.section,
+                                    &got.next.line, &got.bytes);
+    same("a piece's number is", got.number, wanted.number);
+    same("a piece's bytes are", got.bytes, wanted.bytes);
+    same("after a piece the section is", got.next.section, wanted.next.section);
+    same("after a piece the line is", got.next.line, wanted.next.line);
+    check_buffer(&buffer, 0, wanted.text, wanted.bytes);
+    calls++;
+    pieces_asked++;
+    return got;
+}
+
+/* All pieces from the start on, put together; there are no more of them than lines, and then one that has no bytes. */
+static void check_whole(const uint8_t *bytes, size_t room)
+{
+    uint64_t complaints_before = complaints;
+    struct piece piece = {.next = {0, 0}};
+    size_t length = 0, pieces = 0;
+    do {
+        piece = check_piece(bytes, piece.next, room);
+        if (complaints > complaints_before) {
+            return;
+        }
+        if (piece.bytes > 0) {
+            same("a piece begins at byte", (uint64_t)(piece.text - listing.text), length);
+        }
+        length += piece.bytes;
+        pieces++;
+    } while (piece.bytes > 0 && pieces <= all_lines());
+    same("the last piece's bytes are", piece.bytes, 0);
+    same("all pieces' bytes are", length, listing.length);
+    same("after the listing the section is", piece.next.section, file.count + 1);
+}
+
+/* Cursors that few files have a line at. */
+static void check_far(const uint8_t *bytes, size_t number)
+{
+    static const size_t rooms[] = {0, CALMUREDDA_PAGE_LINE_BYTES};
+    for (int i = 0; i < 2; i++) {
+        check_piece(bytes, (struct cursor){number, 0}, rooms[i]);
+        check_piece(bytes, (struct cursor){number, 1}, rooms[i]);
+        check_piece(bytes, (struct cursor){number, number}, rooms[i]);
+        check_piece(bytes, (struct cursor){0, number}, rooms[i]);
+        check_piece(bytes, (struct cursor){file.count / 2, number}, rooms[i]);
+        check_piece(bytes, (struct cursor){file.count, number}, rooms[i]);
+    }
+}
+
+static void every_far(const uint8_t *bytes)
+{
+    for (int i = 0; i < HUGE; i++) {
+        check_far(bytes, huge[i]);
+    }
+    for (int i = 0; i < CUT; i++) {
+        check_far(bytes, cut[i]);
+    }
+    for (size_t n = 0; n <= file.count + 1; n++) {
+        check_piece(bytes, (struct cursor){n, lines_of(n)}, n % 2 ? 0 : CALMUREDDA_PAGE_LINE_BYTES);
+        check_piece(bytes, (struct cursor){n, lines_of(n) + 1}, CALMUREDDA_PAGE_LINE_BYTES);
+    }
+}
+
+static void every_piece(const uint8_t *bytes)
+{
+    for (size_t section = 0; section <= file.count + 1; section++) {
+        for (size_t line = 0; line <= lines_of(section); line++) {
+            for (size_t room = 0; room <= LONGEST_SMALL_BUFFER; room++) {
+                check_piece(bytes, (struct cursor){section, line}, room);
+            }
+        }
+    }
+}
+
+static void random_pieces(const uint8_t *bytes)
+{
+    for (int i = 0; i < RANDOM_PIECES; i++) {
+        size_t section = below(LAST_LINE_EVERY) ? below(file.count) : file.count;
+        size_t room = below(below(4) ? CALMUREDDA_PAGE_LINE_BYTES + 1 : LONGEST_BUFFER);
+        check_piece(bytes, (struct cursor){section, below(lines_of(section) + 1)}, room);
+    }
+}
+
+static void check_listing(const uint8_t *bytes)
+{
+    static const size_t rooms[] = {
+        CALMUREDDA_PAGE_LINE_BYTES, CALMUREDDA_PAGE_LINE_BYTES + 1, LONGEST_SMALL_BUFFER, WINDOW, LONGEST_WINDOW,
+    };
+    for (size_t i = 0; i < sizeof rooms / sizeof rooms[0]; i++) {
+        check_whole(bytes, rooms[i]);
+    }
+    every_far(bytes);
+    if (all_lines() <= SMALL_LISTING) {
+        every_piece(bytes);
+    } else {
+        random_pieces(bytes);
+    }
+}
+
+/* `file`: a section file and what is known of it. It lies once up to the end of what can be read, and once near its
+   start. */
 static void file_line(void)
 {
     read_file();
-    for (int twice = 0; twice < 2; twice++) {
+    number_lines();
+    for (uint64_t twice = 0; twice < 2; twice++) {
+        calls += calls % 2 != twice;
         const uint8_t *bytes = lend(file.bytes, file.length);
-        same("the file's number is", calmuredda_section_check(bytes, file.length), file.number);
-        same("the file's count is", calmuredda_section_count(bytes, file.length), file.count);
-        same("the file's flags are", calmuredda_section_flags(bytes, file.length), file.flags);
-        for (size_t n = 0; n <= MOST_SECTIONS + 1; n++) {
-            check_section(bytes, n);
+        check_sections(bytes);
+        if (find_text(bytes, last_column())) {
+            split_text();
+            check_listing(bytes);
         }
-        for (int i = 0; i < HUGE; i++) {
-            check_section(bytes, huge[i]);
-        }
-        calls++;
     }
     files_asked++;
 }
@@ -606,6 +863,58 @@ static void check_scope(void)
     }
 }
 
+/* The same words as a section file, and pieces of its listing: the lines have 18, 40, 41, 40, 32, 30, 36 and 18
+   bytes. */
+static const char scope_file[] = "010001003000000000100080000000001800000018000000"
+                                 "3c0480000c0004038c82001003e00008000000007c000001";
+static const struct {
+    struct cursor at;
+    size_t room;
+    uint8_t number;
+    size_t bytes;
+    struct cursor next;
+} scope_pieces[] = {
+    {{0, 0}, 0, NO_ROOM, 0, {0, 0}},    {{0, 0}, 17, NO_ROOM, 0, {0, 0}},   {{0, 0}, 18, 0, 18, {0, 1}},
+    {{0, 0}, 57, 0, 18, {0, 1}},        {{0, 0}, 58, 0, 58, {0, 2}},        {{0, 0}, 236, 0, 201, {0, 6}},
+    {{0, 0}, 237, 0, 237, {1, 0}},      {{0, 0}, WINDOW, 0, 237, {1, 0}},   {{0, 1}, 80, 0, 40, {0, 2}},
+    {{0, 2}, 40, NO_ROOM, 0, {0, 2}},   {{0, 2}, 80, 0, 41, {0, 3}},        {{0, 2}, 81, 0, 81, {0, 4}},
+    {{0, 5}, 65, 0, 30, {0, 6}},        {{0, 5}, 66, 0, 66, {1, 0}},        {{0, 6}, 35, NO_ROOM, 0, {0, 6}},
+    {{0, 6}, 36, 0, 36, {1, 0}},        {{0, 7}, 0, 0, 0, {0, 7}},          {{0, 7}, WINDOW, 0, 0, {0, 7}},
+    {{1, 0}, 17, NO_ROOM, 0, {1, 0}},   {{1, 0}, 18, 0, 18, {2, 0}},        {{1, 0}, WINDOW, 0, 18, {2, 0}},
+    {{1, 1}, WINDOW, 0, 0, {1, 1}},     {{2, 0}, WINDOW, 0, 0, {2, 0}},     {{2, 1}, 0, 0, 0, {2, 1}},
+};
+enum { SCOPE_PIECES = sizeof scope_pieces / sizeof scope_pieces[0], SCOPE_TEXT = 1000 };
+
+static void read_scope_file(void)
+{
+    char text[SCOPE_TEXT];
+    size_t length = (size_t)snprintf(text, sizeof text, "scope %s 1:80001000+24+24 [section 0 words 6|", scope_file);
+    for (int i = 0; i < SCOPE_WORDS; i++) {
+        length += (size_t)snprintf(text + length, sizeof text - length, "%s|", scope_lines[i]);
+    }
+    snprintf(text + length, sizeof text - length, "words 6 refused 1|]");
+    rest = text;
+    read_file();
+    number_lines();
+    take_text(last_column());
+    split_text();
+}
+
+/* The rule is compared with these, before the library is. */
+static void check_scope_pieces(void)
+{
+    read_scope_file();
+    for (int i = 0; i < SCOPE_PIECES; i++) {
+        struct piece piece = wanted_piece(scope_pieces[i].at, scope_pieces[i].room);
+        struct cursor next = scope_pieces[i].next;
+        if (piece.number != scope_pieces[i].number || piece.bytes != scope_pieces[i].bytes ||
+            piece.next.section != next.section || piece.next.line != next.line) {
+            malformed("the rule gives another piece of document 01's example");
+        }
+        check_piece(lend(file.bytes, file.length), scope_pieces[i].at, scope_pieces[i].room);
+    }
+}
+
 /* ── the lines of the input ── */
 
 static const struct {
@@ -636,6 +945,7 @@ int main(void)
     ssize_t length;
     begin_lending("line");
     make_area();
+    check_scope_pieces();
     check_scope();
     while ((length = getline(&line, &room, stdin)) > 0) {
         asked_so_far++;
@@ -649,7 +959,8 @@ int main(void)
     if (complaints > 0) {
         return EXIT_FAILURE;
     }
-    printf("%" PRIu64 " blocks, %" PRIu64 " pages, %" PRIu64 " records in every room, %" PRIu64 " section files\n", blocks_asked,
-           pages_asked, lines_asked, files_asked);
+    printf("%" PRIu64 " blocks, %" PRIu64 " pages, %" PRIu64 " records in every room, %" PRIu64 " section files and ",
+           blocks_asked, pages_asked, lines_asked, files_asked);
+    printf("%" PRIu64 " pieces of their listings\n", pieces_asked);
     return EXIT_SUCCESS;
 }

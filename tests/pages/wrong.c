@@ -45,10 +45,35 @@ enum {
     SECTION_ADDRESS_OF_32_BITS,
     SECTION_PART_OF_REFUSAL,   /* not empty */
     SECTION_CHECK_STOPS,       /* 13 where 12 is right */
-    LAST = SECTION_CHECK_STOPS
+    LISTING_READS_AFTER_FILE,
+    LISTING_WRITES_FILE,
+    LISTING_LONG_FILE_IS_CUT,  /* to as many bytes as a file may have */
+    LISTING_SECTION_WRAPS,
+    LISTING_SECTION_OF_8_BITS,
+    LISTING_LINE_WRAPS,        /* four times the line is taken modulo 2^64 */
+    LISTING_LINE_OF_32_BITS,
+    LISTING_LAST_BYTE_FREE,
+    LISTING_HEAD_REPEATED,     /* before the first word, where a piece begins with that */
+    LISTING_GOES_ACROSS,       /* into the next section, where there is room */
+    LISTING_WRITES_AFTER_PIECE,
+    LISTING_SPACES_BELOW,
+    LISTING_REFUSAL_IS_12,     /* in the line of a bad file */
+    LISTING_NONE_REFUSED,      /* the last line of all ends with 0 */
+    LISTING_SKIPS_SECTION,     /* the last one */
+    LISTING_DROPS_WORD,        /* between two pieces */
+    LISTING_SECTION_UNENDED,   /* the cursor stays in the section, after its last line */
+    LISTING_UNENDED,           /* it stays after the last line of all */
+    LISTING_ANSWERS_REFUSAL,   /* 12 or 13 for a bad file */
+    LISTING_NO_LINE_NO_ROOM,   /* 11 where there is no line and no room for one */
+    LISTING_NO_LINE_NO_SECTION,
+    LISTING_STARTS_AGAIN,      /* where nothing is left */
+    LISTING_WRITES_ON_NO_ROOM,
+    LISTING_BYTES_ON_NO_ROOM,
+    LISTING_CURSOR_ON_NO_ROOM, /* goes on */
+    LAST = LISTING_CURSOR_ON_NO_ROOM
 };
 
-enum { FLAGS_AT = 2, WORD_BYTES = 4 };
+enum { FLAGS_AT = 2, WORD_BYTES = 4, MOST_FILE_BYTES = 65535 };
 
 static int is(int number)
 {
@@ -216,4 +241,127 @@ uint8_t __wrap_calmuredda_section_body(const uint8_t *file, size_t file_len, siz
     }
     *offset += is(SECTION_PART_OF_REFUSAL) && number != 0;
     return number;
+}
+
+/* ── listings ── */
+
+struct call {
+    const uint8_t *file;
+    size_t file_len;
+    size_t count;
+    size_t section;
+    size_t line;
+    uint8_t *out;
+    size_t out_len;
+    size_t *next_section;
+    size_t *next_line;
+    size_t *bytes;
+};
+
+/* With another cursor or another room than the call has. */
+static uint8_t really_list(const struct call *call)
+{
+    size_t section = call->section, line = call->line;
+    section = is(LISTING_SECTION_WRAPS) ? wrapped(section, 4) : section;
+    section = is(LISTING_SECTION_OF_8_BITS) ? (uint8_t)section : section;
+    line = is(LISTING_LINE_WRAPS) ? wrapped(line, 2) : line;
+    line = is(LISTING_LINE_OF_32_BITS) ? (uint32_t)line : line;
+    line = is(LISTING_HEAD_REPEATED) && line == 1 && section < call->count ? 0 : line;
+    size_t room = call->out_len - (is(LISTING_LAST_BYTE_FREE) && call->out_len > 0);
+    return __real_calmuredda_listing(call->file, call->file_len, section, line, call->out, room, call->next_section,
+                                     call->next_line, call->bytes);
+}
+
+static void go_across(const struct call *call)
+{
+    size_t more = 0, written = *call->bytes;
+    if (is(LISTING_GOES_ACROSS) && *call->next_section > call->section) {
+        __real_calmuredda_listing(call->file, call->file_len, *call->next_section, 0, call->out + written,
+                                  call->out_len - written, call->next_section, call->next_line, &more);
+        *call->bytes += more;
+    }
+}
+
+static void spoil_piece(const struct call *call)
+{
+    uint8_t *end = call->out + *call->bytes;
+    uint8_t *second = (uint8_t *)memchr(call->out, '\n', *call->bytes) + 1;
+    if (is(LISTING_WRITES_AFTER_PIECE) && *call->bytes < call->out_len) {
+        end[0] ^= 1;
+    }
+    if (is(LISTING_SPACES_BELOW) && second < end) {
+        memset(second, ' ', (size_t)(end - second) - 1);
+    }
+    if (is(LISTING_REFUSAL_IS_12) && call->count == 0) {
+        end[-2] = '2';
+    }
+    if (is(LISTING_NONE_REFUSED) && call->count > 0 && call->section == call->count) {
+        end[-2] = '0';
+    }
+}
+
+static size_t lines_written(const struct call *call)
+{
+    size_t lines = 0;
+    for (size_t i = 0; i < *call->bytes; i++) {
+        lines += call->out[i] == '\n';
+    }
+    return lines;
+}
+
+/* The cursor after a piece. */
+static void spoil_next(const struct call *call)
+{
+    int is_end = *call->next_section > call->section;
+    if (is(call->section < call->count ? LISTING_SECTION_UNENDED : LISTING_UNENDED) && is_end) {
+        *call->next_section = call->section;
+        *call->next_line = call->line + lines_written(call);
+    }
+    *call->next_section += is(LISTING_SKIPS_SECTION) && is_end && *call->next_section + 1 == call->count;
+    *call->next_line += is(LISTING_DROPS_WORD) && !is_end;
+}
+
+static uint8_t spoil_no_line(const struct call *call)
+{
+    if (is(LISTING_STARTS_AGAIN)) {
+        *call->next_section = *call->next_line = 0;
+    }
+    if (is(LISTING_NO_LINE_NO_ROOM) && call->out_len == 0) {
+        return CALMUREDDA_NO_ROOM;
+    }
+    return is(LISTING_NO_LINE_NO_SECTION) && call->section > call->count ? CALMUREDDA_NO_SECTION : CALMUREDDA_ACCEPTED;
+}
+
+static uint8_t spoil_no_room(const struct call *call)
+{
+    if (is(LISTING_WRITES_ON_NO_ROOM) && call->out_len > 0) {
+        call->out[0] ^= 1;
+    }
+    *call->bytes = is(LISTING_BYTES_ON_NO_ROOM);
+    *call->next_line += is(LISTING_CURSOR_ON_NO_ROOM);
+    return CALMUREDDA_NO_ROOM;
+}
+
+uint8_t __wrap_calmuredda_listing(const uint8_t *file, size_t file_len, size_t section, size_t line, uint8_t *out,
+                                  size_t out_len, size_t *next_section, size_t *next_line, size_t *bytes)
+{
+    if (is(LISTING_READS_AFTER_FILE)) {
+        read_after(file, file_len);
+    }
+    if (is(LISTING_WRITES_FILE)) {
+        write_to(file, file_len);
+    }
+    file_len = is(LISTING_LONG_FILE_IS_CUT) && file_len > MOST_FILE_BYTES ? MOST_FILE_BYTES : file_len;
+    size_t count = __real_calmuredda_section_count(file, file_len);
+    struct call call = {file, file_len, count, section, line, out, out_len, next_section, next_line, bytes};
+    uint8_t number = really_list(&call);
+    if (*bytes > 0) {
+        go_across(&call);
+        spoil_piece(&call);
+        spoil_next(&call);
+        return is(LISTING_ANSWERS_REFUSAL) ? __real_calmuredda_section_check(file, file_len) : number;
+    }
+    *next_section = section;
+    *next_line = line;
+    return number == CALMUREDDA_ACCEPTED ? spoil_no_line(&call) : spoil_no_room(&call);
 }

@@ -28,6 +28,7 @@ enum {
     LONGEST_FILE = 1024,
     LONGEST_NAME = 4096,
     MOST_SECTIONS = 3,  /* one more than the files have */
+    MOST_LINES = 20,    /* one more than a section of theirs has */
 
     OUT_BYTES = 512,
     LONGEST_ROOM = OUT_BYTES - 2 * CANARY_BYTES,
@@ -230,6 +231,21 @@ static void ask_page(struct own *own)
     add_out(own);
 }
 
+/* Any line, or the first of a section, which may be the last line of all. */
+static void ask_listing(struct own *own)
+{
+    struct slice file = any_file(own);
+    size_t section = below(own, MOST_SECTIONS + 1);
+    size_t line = below(own, 2) ? below(own, MOST_LINES) : 0;
+    size_t room = below(own, LONGEST_ROOM + 1);
+    size_t bytes;
+    add(own, calmuredda_listing(file.bytes, file.length, section, line, any_out(own), room, &section, &line, &bytes));
+    add(own, section);
+    add(own, line);
+    add(own, bytes);
+    add_out(own);
+}
+
 static const struct function {
     const char *name;
     void (*ask)(struct own *);
@@ -244,6 +260,7 @@ static const struct function {
     {"section_body", ask_body},
     {"block", ask_block},
     {"page", ask_page},
+    {"listing", ask_listing},
 };
 enum { FUNCTIONS = sizeof functions / sizeof functions[0], CASES = FUNCTIONS * CASES_EACH };
 

@@ -8,7 +8,7 @@
 #include "calmuredda.h"
 
 /* Which function it is; `run` counts up to the last. */
-enum { DECODE = 1, ENCODE, LINE, CHECK, COUNT, FLAGS, ADDRESS, BODY, BLOCK, PAGE, LAST = PAGE };
+enum { DECODE = 1, ENCODE, LINE, CHECK, COUNT, FLAGS, ADDRESS, BODY, BLOCK, PAGE, LISTING, LAST = LISTING };
 
 enum { LONGEST = 512 };
 
@@ -103,5 +103,14 @@ uint8_t __wrap_calmuredda_page(const uint8_t *body, size_t body_len, uint64_t va
 {
     uint8_t number = __real_calmuredda_page(body, body_len, va, flags, index, out, out_len, place, words, bytes);
     through_bytes(PAGE, out, out_len);
+    return number;
+}
+
+uint8_t __wrap_calmuredda_listing(const uint8_t *file, size_t file_len, size_t section, size_t line, uint8_t *out,
+                                  size_t out_len, size_t *next_section, size_t *next_line, size_t *bytes)
+{
+    uint8_t number =
+        __real_calmuredda_listing(file, file_len, section, line, out, out_len, next_section, next_line, bytes);
+    through_bytes(LISTING, out, out_len);
     return number;
 }

@@ -1,7 +1,8 @@
-// The boundary for programs in C: decoding and encoding through byte records, printed lines, section files, blocks and
-// pages. Every function that C may call is here, and nothing else; include/calmuredda.h describes them for C.
-// `rt staticlib calmuredda` makes libcalmuredda.a of this crate. specs/Boundary.antt says what the answers mean. Where
-// an answer is more than one number, C lends a place for each of the others, which is written whatever the answer is.
+// The boundary for programs in C: decoding and encoding through byte records, printed lines, section files, blocks,
+// pages and listings. Every function that C may call is here, and nothing else; include/calmuredda.h describes them
+// for C. `rt staticlib calmuredda` makes libcalmuredda.a of this crate. specs/Boundary.antt says what the answers mean.
+// Where an answer is more than one number, C lends a place for each of the others, which is written whatever the answer
+// is.
 ghost use mathlib.Core.Path.{_≡_};
 ghost use lib.ListN.{length};
 ghost use Rattle.buffers.specs.Bytes.{over, overAt};
@@ -11,7 +12,9 @@ ghost use Rattle.line.specs.Line.{plain};
 ghost use Rattle.body.specs.Body.{viewOf};
 ghost use Rattle.blocks.specs.Block.{blockOf};
 ghost use Rattle.pages.specs.Page.{pageNumber, pageWords, pageBytes};
+ghost use Rattle.listing.specs.Piece.{cursor, pieceNumber, pieceBytes, nextOf};
 ghost use Rattle.calmuredda.specs.Boundary.{on, decodedFor, answer, EncodesRecord, lineNumber, lineBytes};
+use listing::Cursor;
 
 // Where the number stands in the encoder's answer.
 const NUMBERS: u64 = 0x1_0000_0000;
@@ -55,7 +58,7 @@ fn both(number: u8, word: u32) -> u64
     number as u64 * NUMBERS + word as u64
 }
 
-// ── lines, section files, blocks and pages ──
+// ── lines, section files, blocks, pages and listings ──
 
 // The line of the reading whose record is in the first 80 bytes, to the start of `out`. Answers with the number: 16 for
 // fewer bytes, 9 if they are not the record of any reading, 10, 11; `written` is how many bytes the line has.
@@ -175,6 +178,41 @@ pub extern "C" fn calmuredda_page(
 {
     let p = pages::page(body, body::view_of(va, flags), index, out, place);
     *words = p.words;
+    *bytes = p.bytes;
+    p.number
+}
+
+// The listing of a section file from line `line` of section `section` on, as many whole lines of that section as fit in
+// `out`: 0 or 11; `bytes` is how many bytes they have, `next_section` and `next_line` are where the listing goes on.
+#[no_mangle]
+pub extern "C" fn calmuredda_listing(
+    file: &[u8],
+    section: usize,
+    line: usize,
+    out: &mut [u8],
+    next_section: &mut usize,
+    next_line: &mut usize,
+    bytes: &mut usize,
+) -> u8
+    ensures { λ r. ⌜
+        r ≡ pieceNumber (now (file .entry)) (length (now (out .entry))) (cursor section line) ⌝ }
+    ensures { λ _. ⌜
+        now («next_section» .exit) ≡
+        nextOf (now (file .entry)) (length (now (out .entry))) (cursor section line) .section ⌝ }
+    ensures { λ _. ⌜
+        now («next_line» .exit) ≡
+        nextOf (now (file .entry)) (length (now (out .entry))) (cursor section line) .line ⌝ }
+    ensures { λ _. ⌜
+        now (bytes .exit) ≡
+        length (pieceBytes (now (file .entry)) (length (now (out .entry))) (cursor section line)) ⌝ }
+    ensures { λ _. ⌜
+        now (out .exit) ≡
+        over (pieceBytes (now (file .entry)) (length (now (out .entry))) (cursor section line)) (now (out .entry)) ⌝ }
+{
+    let p = listing::piece(file, Cursor { section, line }, out);
+    let next = p.next;
+    *next_section = next.section;
+    *next_line = next.line;
     *bytes = p.bytes;
     p.number
 }

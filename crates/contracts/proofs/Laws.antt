@@ -13,6 +13,11 @@ use Rattle.contracts.specs.Exact.{Meets, Exact}
 pub same : {A : Type 0} {x y z : A} → x ≡ z → y ≡ z → x ≡ y
 same p q = p ∙ sym q
 
+-- what two answers leave in one parameter, and in those after it
+pub _⨾_ : {A B : Type 0} {a b : A × B} → a .0 ≡ b .0 → a .1 ≡ b .1 → a ≡ b
+_⨾_ p q i = (p i, q i)
+
+infixr 30 _⨾_
 -- two tests of one thing
 pub same-test : {P : Type 0} (x y : Bool) → (x ≡ true) ↔ P → (y ≡ true) ↔ P → x ≡ y
 same-test true y p q = sym (q .1 (p .0 refl))

@@ -18,9 +18,10 @@ use Rattle.contracts.specs.Section.{Section}
 use Rattle.contracts.specs.Body.{Body}
 use Rattle.contracts.specs.Blocks.{Blocks}
 use Rattle.contracts.specs.Pages.{Pages}
+use Rattle.contracts.specs.Listing.{Listing}
 use Rattle.contracts.specs.Calmuredda.{Calmuredda}
 use Rattle.contracts.specs.Theorems.{Theorems}
-use Rattle.contracts.proofs.Laws.{same, same-test, determined, by-equation}
+use Rattle.contracts.proofs.Laws.{same, same-test, _⨾_, determined, by-equation}
 
 of-word : Word
 of-word =
@@ -72,15 +73,17 @@ of-decode =
 of-encode : Encode
 of-encode =
     record {
-      encode = determined (λ κs a x y v w p q. (encodings .definition (a .1 .1 .0) (a .1 .0) .unique (a .0) x y p q, refl));
+      encode =
+          determined
+          (λ κs a x y v w p q. (encodings .definition (a .1 .1 .0) (a .1 .0) .unique (a .0) x y p q, refl));
     }
 
 of-buffers : Buffers
 of-buffers =
     record {
-      put = determined (λ κs a x y v w p q. (refl, λ i. (tt, (same p q i, (tt, tt)))));
-      put1 = determined (λ κs a x y v w p q. (refl, λ i. (tt, (same p q i, (tt, tt)))));
-      put8 = determined (λ κs a x y v w p q. (refl, λ i. (tt, (same p q i, (tt, tt)))));
+      put = determined (λ κs a x y v w p q. (refl, refl ⨾ same p q ⨾ refl));
+      put1 = determined (λ κs a x y v w p q. (refl, refl ⨾ same p q ⨾ refl));
+      put8 = determined (λ κs a x y v w p q. (refl, refl ⨾ same p q ⨾ refl));
       get2 = by-equation (λ κs a v w. refl);
       get4 = by-equation (λ κs a v w. refl);
       get8 = determined (λ κs a x y v w p q. (same (p .0) (q .0), refl));
@@ -97,19 +100,19 @@ of-names =
 of-record : Record
 of-record =
     record {
-      pack = determined (λ κs a x y v w p q. (same (p .0) (q .0), λ i. (tt, (same (p .1) (q .1) i, tt))));
+      pack = determined (λ κs a x y v w p q. (same (p .0) (q .0), refl ⨾ same (p .1) (q .1) ⨾ refl));
       unpack = by-equation (λ κs a v w. refl);
     }
 
 of-text : Text
 of-text =
     record {
-      count = determined (λ κs a x y v w p q. (same (p .0) (q .0), λ i. (tt, (same (p .1) (q .1) i, (tt, tt)))));
-      decimal = determined (λ κs a x y v w p q. (same (p .0) (q .0), λ i. (tt, (same (p .1) (q .1) i, (tt, tt)))));
-      address = determined (λ κs a x y v w p q. (same (p .0) (q .0), λ i. (tt, (same (p .1) (q .1) i, (tt, tt)))));
-      hex16 = determined (λ κs a x y v w p q. (refl, λ i. (tt, (same p q i, (tt, tt)))));
-      hex8 = determined (λ κs a x y v w p q. (refl, λ i. (tt, (same p q i, (tt, tt)))));
-      name = determined (λ κs a x y v w p q. (same (p .0) (q .0), λ i. (tt, (same (p .1) (q .1) i, (tt, tt)))));
+      count = determined (λ κs a x y v w p q. (same (p .0) (q .0), refl ⨾ same (p .1) (q .1) ⨾ refl));
+      decimal = determined (λ κs a x y v w p q. (same (p .0) (q .0), refl ⨾ same (p .1) (q .1) ⨾ refl));
+      address = determined (λ κs a x y v w p q. (same (p .0) (q .0), refl ⨾ same (p .1) (q .1) ⨾ refl));
+      hex16 = determined (λ κs a x y v w p q. (refl, refl ⨾ same p q ⨾ refl));
+      hex8 = determined (λ κs a x y v w p q. (refl, refl ⨾ same p q ⨾ refl));
+      name = determined (λ κs a x y v w p q. (same (p .0) (q .0), refl ⨾ same (p .1) (q .1) ⨾ refl));
     }
 
 of-columns : Columns
@@ -119,13 +122,13 @@ of-columns =
       hex = by-equation (λ κs a v w. refl);
       word = by-equation (λ κs a v w. refl);
       line-end = by-equation (λ κs a v w. refl);
-      move-to-start = determined (λ κs a x y v w p q. (same (p .0) (q .0), λ i. (same (p .1) (q .1) i, (tt, (tt, tt)))));
+      move-to-start = determined (λ κs a x y v w p q. (same (p .0) (q .0), same (p .1) (q .1) ⨾ refl));
     }
 
 of-line : Line
 of-line =
     record {
-      print = determined (λ κs a x y v w p q. (same (p .0) (q .0), λ i. (tt, (same (p .1 .0) (q .1 .0) i, tt))));
+      print = determined (λ κs a x y v w p q. (same (p .0) (q .0), refl ⨾ same (p .1 .0) (q .1 .0) ⨾ refl));
     }
 
 of-section : Section
@@ -136,7 +139,11 @@ of-section =
       flags = by-equation (λ κs a v w. refl);
       refusal = by-equation (λ κs a v w. refl);
       address = by-equation (λ κs a v w. refl);
-      body = record { asks-nothing = λ κs a. tt; one = λ κs a x y v w p q. (λ i. (same (p .1) (q .1) i, same (p .0) (q .0) i), refl) };
+      body =
+          record {
+            asks-nothing = λ κs a. tt;
+            one = λ κs a x y v w p q. (same (p .1) (q .1) ⨾ same (p .0) (q .0), refl);
+          };
       start = by-equation (λ κs a v w. refl);
     }
 
@@ -157,44 +164,53 @@ of-blocks = record { block = by-equation (λ κs a v w. refl) }
 of-pages : Pages
 of-pages =
     record {
-      page = determined (λ κs a x y v w p q. (same (p .0) (q .0), λ i. (tt, (tt, (tt, (same (p .1) (q .1) i, (tt, tt)))))));
+      page = determined (λ κs a x y v w p q. (same (p .0) (q .0), refl ⨾ refl ⨾ refl ⨾ same (p .1) (q .1) ⨾ refl));
+    }
+
+of-listing : Listing
+of-listing =
+    record {
+      piece = determined (λ κs a x y v w p q. (same (p .0) (q .0), refl ⨾ refl ⨾ same (p .1) (q .1) ⨾ refl));
     }
 
 of-calmuredda : Calmuredda
 of-calmuredda =
     record {
-      decode = determined (λ κs a x y v w p q. (same (p .0) (q .0), λ i. (tt, (tt, (tt, (tt, (same (p .1) (q .1) i, tt)))))));
+      decode =
+          determined
+          (λ κs a x y v w p q. (same (p .0) (q .0), refl ⨾ refl ⨾ refl ⨾ refl ⨾ same (p .1) (q .1) ⨾ refl));
       encode = determined (λ κs a x y v w p q. (boundary .one (a .0 .now) (a .1 .0) (on (a .1 .1 .0)) x y p q, refl));
-      line = determined (λ κs a x y v w p q. (same (p .0) (q .0), λ i. (tt, (same (p .1 .1) (q .1 .1) i, (same (p .1 .0) (q .1 .0) i, tt)))));
+      line =
+          determined
+          (λ κs a x y v w p q.
+          (same (p .0) (q .0), refl ⨾ same (p .1 .1) (q .1 .1) ⨾ same (p .1 .0) (q .1 .0) ⨾ refl));
       section-check = by-equation (λ κs a v w. refl);
       section-count = by-equation (λ κs a v w. refl);
       section-flags = by-equation (λ κs a v w. refl);
       section-address = by-equation (λ κs a v w. refl);
-      section-body = determined (λ κs a x y v w p q. (same (p .0) (q .0), λ i. (tt, (tt, (same (p .1 .0) (q .1 .0) i, (same (p .1 .1) (q .1 .1) i, tt))))));
-      block =
+      section-body =
           determined
           (λ κs a x y v w p q.
-          (same (p .0) (q .0), λ i. (tt, (tt, (tt, (tt, (same (p .1 .0) (q .1 .0) i, (same (p .1 .1) (q .1 .1) i, tt))))))));
+          (same (p .0) (q .0), refl ⨾ refl ⨾ same (p .1 .0) (q .1 .0) ⨾ same (p .1 .1) (q .1 .1) ⨾ refl));
+      block =
+          determined
+          (λ κs a x y v w p q. (
+            same (p .0) (q .0),
+            refl ⨾ refl ⨾ refl ⨾ refl ⨾ same (p .1 .0) (q .1 .0) ⨾ same (p .1 .1) (q .1 .1) ⨾ refl,
+          ));
       page =
           determined
           (λ κs a x y v w p q. (
             same (p .0) (q .0),
-            λ i. (
-              tt,
-              (
-                tt,
-                (
-                  tt,
-                  (
-                    tt,
-                    (
-                      same (p .1 .1 .1) (q .1 .1 .1) i,
-                      (tt, (same (p .1 .0) (q .1 .0) i, (same (p .1 .1 .0) (q .1 .1 .0) i, tt))),
-                    ),
-                  ),
-                ),
-              ),
-            ),
+            refl ⨾ refl ⨾ refl ⨾ refl ⨾ same (p .1 .1 .1) (q .1 .1 .1) ⨾ refl ⨾ same (p .1 .0) (q .1 .0)
+                ⨾ same (p .1 .1 .0) (q .1 .1 .0) ⨾ refl,
+          ));
+      listing =
+          determined
+          (λ κs a x y v w p q. (
+            same (p .0) (q .0),
+            refl ⨾ refl ⨾ refl ⨾ same (p .1 .1 .1 .1) (q .1 .1 .1 .1) ⨾ same (p .1 .0) (q .1 .0)
+                ⨾ same (p .1 .1 .0) (q .1 .1 .0) ⨾ same (p .1 .1 .1 .0) (q .1 .1 .1 .0) ⨾ refl,
           ));
     }
 
@@ -216,5 +232,6 @@ theorems =
       in-body = of-body;
       in-blocks = of-blocks;
       in-pages = of-pages;
+      in-listing = of-listing;
       in-calmuredda = of-calmuredda;
     }

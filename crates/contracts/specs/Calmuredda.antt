@@ -20,6 +20,8 @@ use Rattle.calmuredda.proofs.calmuredda_block.Kinds as block-kinds
 use Rattle.calmuredda.proofs.calmuredda_block.Reads as block
 use Rattle.calmuredda.proofs.calmuredda_page.Kinds as page-kinds
 use Rattle.calmuredda.proofs.calmuredda_page.Reads as page
+use Rattle.calmuredda.proofs.calmuredda_listing.Kinds as listing-kinds
+use Rattle.calmuredda.proofs.calmuredda_listing.Reads as listing
 
 pub record Calmuredda : Type 0 where
   pub decode : Exact decode-kinds.ps decode-kinds.r decode.Asked decode.Learnt
@@ -32,3 +34,4 @@ pub record Calmuredda : Type 0 where
   pub section-body : Exact body-kinds.ps body-kinds.r body.Asked body.Learnt
   pub block : Exact block-kinds.ps block-kinds.r block.Asked block.Learnt
   pub page : Exact page-kinds.ps page-kinds.r page.Asked page.Learnt
+  pub listing : Exact listing-kinds.ps listing-kinds.r listing.Asked listing.Learnt

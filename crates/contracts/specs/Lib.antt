@@ -14,6 +14,7 @@ pub mod Section
 pub mod Body
 pub mod Blocks
 pub mod Pages
+pub mod Listing
 pub mod Calmuredda
 pub mod Theorems
 pub mod Attacks

@@ -15,6 +15,7 @@ use Rattle.contracts.specs.Section.{Section}
 use Rattle.contracts.specs.Body.{Body}
 use Rattle.contracts.specs.Blocks.{Blocks}
 use Rattle.contracts.specs.Pages.{Pages}
+use Rattle.contracts.specs.Listing.{Listing}
 use Rattle.contracts.specs.Calmuredda.{Calmuredda}
 
 pub record Theorems : Type 0 where
@@ -33,4 +34,5 @@ pub record Theorems : Type 0 where
   pub in-body : Body
   pub in-blocks : Blocks
   pub in-pages : Pages
+  pub in-listing : Listing
   pub in-calmuredda : Calmuredda

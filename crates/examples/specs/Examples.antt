@@ -1,9 +1,10 @@
--- Document 01's examples that are marked P, a line of the table for each word. Where the document has no address the
--- line holds at every address; each holds with and without the width flag.
-use Prim.Native.Nat.{ℕ}
+-- Document 01's examples that are marked P, a line of the table for each word, and its example of the program `sweep`.
+-- Where the document has no address the line holds at every address; each holds with and without the width flag.
+use Prim.Native.Nat.{ℕ, _/_, _%_}
+use Prim.Native.String.{String}
 use mathlib.Core.Path.{_≡_}
 use mathlib.Core.Bool.{Bool, false}
-use mathlib.Core.List.{List, [], _∷_}
+use mathlib.Core.List.{List, [], _∷_, _++_}
 use lib.IntN.{pos, _-ℤ_}
 use lib.ListN.{length}
 use Rattle.reading.specs.declared.Op.{Op}
@@ -16,6 +17,8 @@ use Rattle.reading.specs.Kind as kind
 use Rattle.classes.specs.Meaning.{slots}
 use Rattle.classes.specs.Decoded.{decodedOf}
 use Rattle.inverse.specs.Encoded.{encodedAs, Encodes}
+use Rattle.text.specs.Text.{newline, textOf}
+use Rattle.listing.specs.Swept.{sweptOf}
 
 -- ── what an example says ──
 
@@ -92,6 +95,44 @@ examples =
     line 0x7c000001 anywhere (refused 8) ∷
     []
 
+-- ── what `sweep` prints ──
+
+-- a file in hex, eight digits to a number, and what is printed, line by line
+pub record Sweep : Type 0 where
+  pub file : List ℕ
+  pub lines : List String
+
+abbrev pub sweep : List ℕ → List String → Sweep
+sweep f ls = record { file = f; lines = ls }
+
+-- the bytes of such a file
+unfoldable pub bytes : List ℕ → List ℕ
+bytes [] = []
+bytes (h ∷ hs) = h / 0x1000000 ∷ h / 0x10000 % 256 ∷ h / 0x100 % 256 ∷ h % 256 ∷ bytes hs
+
+-- the bytes of such lines, each with its newline
+unfoldable pub printed : List String → List ℕ
+printed [] = []
+printed (s ∷ ss) = textOf s ++ (newline ∷ []) ++ printed ss
+
+-- the document's example; the empty file; a section without a word
+unfoldable pub sweeps : List Sweep
+sweeps =
+    sweep
+    (0x01000100 ∷ 0x30000000 ∷ 0x00100080 ∷ 0x00000000 ∷ 0x18000000 ∷ 0x18000000 ∷
+    0x3c048000 ∷ 0x0c000403 ∷ 0x8c820010 ∷ 0x03e00008 ∷ 0x00000000 ∷ 0x7c000001 ∷ [])
+    ("section 0 words 6" ∷
+    "0000000080001000 3c048000 lui a0, 32768" ∷
+    "0000000080001004 0c000403 jal 0x8000100c" ∷
+    "0000000080001008 8c820010 lw v0, 16(a0)" ∷
+    "000000008000100c 03e00008 jr ra" ∷
+    "0000000080001010 00000000 nop" ∷
+    "0000000080001014 7c000001 refused 8" ∷
+    "words 6 refused 1" ∷ []) ∷
+    sweep [] ("file refused 12" ∷ []) ∷
+    sweep (0x01000000 ∷ 0x18000000 ∷ 0x00100080 ∷ 0x00000000 ∷ 0x18000000 ∷ 0x00000000 ∷ []) ("file refused 13" ∷ []) ∷
+    []
+
 -- ── every one of them holds ──
 
 abbrev pub HoldsAt : ℕ → Line → Type 0
@@ -101,9 +142,15 @@ abbrev pub Placed : Place → Line → Type 0
 Placed anywhere l = (va : ℕ) → HoldsAt va l
 Placed (at a) l = HoldsAt a l
 
-unfoldable pub Every : List Line → Type 0
-Every [] = Unit {0}
-Every (l ∷ ls) = Placed (l .place) l × Every ls
+abbrev pub Holds : Line → Type 0
+Holds l = Placed (l .place) l
+
+abbrev pub Prints : Sweep → Type 0
+Prints s = sweptOf (bytes (s .file)) ≡ printed (s .lines)
+
+unfoldable pub Every : {A : Type 0} → (A → Type 0) → List A → Type 0
+Every P [] = Unit {0}
+Every P (x ∷ xs) = P x × Every P xs
 
 abbrev pub Examples : Type 0
-Examples = Every examples
+Examples = Every Holds examples × Every Prints sweeps

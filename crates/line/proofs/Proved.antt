@@ -14,6 +14,7 @@ use Rattle.line.specs.Line.{registerName, plain, opText, listed, lineOf,
 use Rattle.line.specs.Theorems.{longReading, Examples, Theorems}
 use Rattle.line.proofs.Readable.{readable}
 use Rattle.line.proofs.Short.{short, within}
+use Rattle.line.proofs.Unbroken.{unbroken, plain-unbroken}
 
 tight : (printable longReading ≡ true) × (length (lineOf plain longReading) ≡ longest)
 unfolding printable allRegistered lineOf listed opText registerName registers textOf letters letter
@@ -27,4 +28,13 @@ unfolding decodedOf decodedBy table common byWidth find takes six match nopLike 
 examples = record { lui = λ va. refl; jal = refl; lw = λ va. refl; jr = λ va. refl; nop = λ va. refl; ins = λ va. refl }
 
 pub theorems : Theorems
-theorems = record { readable = readable; short = λ σ. short; within = within; tight = tight; examples = examples }
+theorems =
+    record {
+      readable = readable;
+      short = λ σ. short;
+      within = within;
+      tight = tight;
+      unbroken = λ σ. unbroken;
+      plain-unbroken = plain-unbroken;
+      examples = examples;
+    }

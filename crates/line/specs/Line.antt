@@ -1,5 +1,6 @@
 -- THE PRINTED LINE of a reading, byte by byte, and which readings have one.
 use Prim.Native.Nat.{ℕ, _^_, _≤_, _<_}
+use mathlib.Core.Path.{_≡_}
 use mathlib.Core.Bool.{Bool, true, _&&_, cond}
 use mathlib.Core.List.{List, [], _∷_, _++_}
 use lib.Dec.{ltb, leb, eqb}
@@ -11,7 +12,7 @@ use Rattle.reading.specs.declared.Operand.{Operand}
 use Rattle.reading.specs.declared.Insn.{Insn}
 use Rattle.reading.specs.Kind.{many}
 use Rattle.reading.specs.Names.{nameOf}
-use Rattle.text.specs.Text.{textOf, numeralOf, decimalOf, addressOf}
+use Rattle.text.specs.Text.{textOf, numeralOf, decimalOf, addressOf, newline, without}
 use Rattle.names.specs.Names.{registers}
 use Rattle.line.specs.declared.Printed.{Printed}
 
@@ -89,6 +90,13 @@ longest = 120
 pub record Within (σ : Spelling) : Type 0 where
   pub register : (r : ℕ) → r < 32 → length (σ .register r) ≤ longestRegister
   pub address : (a : ℕ) → a < 2 ^ 64 → length (σ .address a) ≤ longestAddress
+
+-- ── that they stay on their line ──
+
+-- a spelling that writes no newline, whatever the number
+pub record Unbroken (σ : Spelling) : Type 0 where
+  pub register : (r : ℕ) → without newline (σ .register r) ≡ true
+  pub address : (a : ℕ) → without newline (σ .address a) ≡ true
 
 -- ── what printing answers and writes, with this much room ──
 

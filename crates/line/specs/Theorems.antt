@@ -14,8 +14,8 @@ use Rattle.reading.specs.declared.Insn.{Insn}
 use Rattle.reading.specs.Kind as kind
 use Rattle.reading.specs.Reading.{operand}
 use Rattle.classes.specs.Decoded.{decodedOf}
-use Rattle.text.specs.Text.{textOf}
-use Rattle.line.specs.Line.{Spelling, plain, lineOf, printable, longest, Within}
+use Rattle.text.specs.Text.{textOf, newline, without}
+use Rattle.line.specs.Line.{Spelling, plain, lineOf, printable, longest, Within, Unbroken}
 
 -- ── the longest line ──
 
@@ -61,4 +61,8 @@ pub record Theorems : Type 0 where
   pub within : Within plain
   -- and has a line of 120 bytes: `print` asks for no more room than a line can need
   pub tight : (printable longReading ≡ true) × (length (lineOf plain longReading) ≡ longest)
+  -- no reading has a newline in its line, in every spelling that writes none
+  pub unbroken : (σ : Spelling) → Unbroken σ → (i : Insn) → without newline (lineOf σ i) ≡ true
+  -- document 01's writes none
+  pub plain-unbroken : Unbroken plain
   pub examples : Examples

@@ -9,8 +9,7 @@ use lib.ListN.{length, length-append, length-drop}
 use borrow.Rule.Slice.PartMut.{putMid, midOf, put-same}
 use Rattle.buffers.specs.Bytes.{over, overAt}
 use Rattle.buffers.proofs.Laws.{tail-part, lent-over, over-nothing, overAt-length, then-at}
-use Rattle.pages.specs.Lines.{fitting}
-use Rattle.pages.specs.Private.Lines.{whole}
+use Rattle.pages.specs.Lines.{fitting, whole}
 use Rattle.pages.proofs.Runs.{run, one-fits, none-fits, run-more, no-lines}
 
 module _ (line : ℕ → List ℕ) (n place total : ℕ) (out₀ : List ℕ) where

@@ -1,6 +1,7 @@
--- A line, written piece by piece.
+-- A line, written piece by piece, and that it is one line.
 use Prim.Native.Nat.{ℕ, _+_, _-_, _≤_, _<_}
 use mathlib.Core.Path.{_≡_, refl, sym, ap, _∙_}
+use mathlib.Core.Bool.{Bool, true, false, cond}
 use mathlib.Core.List.{List, [], _∷_, _++_, append-assoc}
 use native.Mathlib.Omega.{arith}
 use borrow.Author.Tests.{eq-eqb, ne-eqb}
@@ -9,15 +10,17 @@ use borrow.Rule.Slice.PartMut.{putMid, midOf}
 use Rattle.reading.specs.declared.Decoded.{Decoded}
 use Rattle.buffers.specs.Bytes.{over, placed}
 use Rattle.buffers.proofs.Laws.{first-at, next-at, then-at, at-start, lent-over}
-use Rattle.text.specs.Text.{letter, letters, textOf, numeralOf, hexOf}
+use Rattle.text.specs.Text.{letter, letters, textOf, numeralOf, hexOf, newline, without, OneLine}
 use Rattle.buffers.specs.Writes.{Wrote}
 use Rattle.text.proofs.Texts.{space}
 use Rattle.text.proofs.Lengths.{hex-long}
-use Rattle.line.specs.Line.{Spelling, lineOf, longest, printed}
+use Rattle.text.proofs.Rows.{without-append, numeral-without, hex-without}
+use Rattle.line.specs.Line.{Spelling, lineOf, longest, Unbroken, printed}
 use Rattle.line.proofs.Answers.{fits}
+use Rattle.line.proofs.Unbroken.{unbroken}
 use Rattle.body.specs.declared.View.{View}
-use Rattle.body.specs.Body.{addressAt, wordAt, decodedAt}
-use Rattle.pages.specs.Page.{newline, answerText, wordLine, textColumn, longestLine}
+use Rattle.body.specs.Body.{addressAt, wordAt, decodedAt, isRefused}
+use Rattle.pages.specs.Page.{answerText, wordLine, textColumn, longestLine}
 use Rattle.pages.specs.Private.Steps.{Answers, columnsOf}
 
 -- ── texts ──
@@ -37,6 +40,15 @@ module _ (σ : Spelling) (d : Decoded) where
   unfolding answerText
   text-accepted z = rw (eq-eqb (d .number) 0 z)
 
+  text-without : Unbroken σ → without newline (answerText σ d) ≡ true
+  unfolding answerText without textOf letters letter
+  text-without s = go (isRefused d)
+    where
+      go : (b : Bool) →
+          without newline (cond b (textOf "refused " ++ numeralOf 10 (d .number)) (lineOf σ (d .insn))) ≡ true
+      go true = numeral-without newline (omega arith) 10 (d .number)
+      go false = unbroken s (d .insn)
+
   -- a line that has room is printed
   pub printed-whole : (room : ℕ) → Answers σ d → longest ≤ room → printed σ (d .insn) room ≡ lineOf σ (d .insn)
   printed-whole room a h = fits σ (d .insn) room (a .lined) (omega (arith, a .short)) .bytes
@@ -47,6 +59,10 @@ module _ (v : View) (body : List ℕ) (n : ℕ) where
   pub columns-long : length (columnsOf v body n) ≡ textColumn
   unfolding columnsOf
   columns-long = rw (← space) (simp (length-append, hex-long))
+
+  columns-without : without newline (columnsOf v body n) ≡ true
+  unfolding columnsOf without textOf letters letter
+  columns-without = simp (without-append, hex-without newline (omega arith))
 
   pub columns-written : {a w : ℕ} (d : List ℕ) {d₁ d₂ d₃ d₄ : List ℕ} → textColumn ≤ length d →
       a ≡ addressAt v n → w ≡ wordAt v body n → d₁ ≡ placed 0 (hexOf 16 a) d → d₂ ≡ placed 16 (32 ∷ []) d₁ →
@@ -74,6 +90,15 @@ module _ (σ : Spelling) (v : View) (body : List ℕ) (n : ℕ) where
   pub wordLine-is : wordLine σ v body n ≡ (columnsOf v body n ++ shown) ++ (newline ∷ [])
   unfolding wordLine columnsOf
   wordLine-is = simp append-assoc
+
+  -- its newline is at its end, and there is no other
+  pub own-line : Unbroken σ → OneLine (wordLine σ v body n)
+  own-line s =
+      record {
+        text = columnsOf v body n ++ shown;
+        is = wordLine-is;
+        clear = simp (without-append, columns-without v body n, text-without σ (decodedAt v body n) s);
+      }
 
   pub line-written : {m : ℕ} (d : List ℕ) {d₁ ys d₃ : List ℕ} → length d ≡ longestLine → length shown ≤ longest →
       d₁ ≡ over (columnsOf v body n) d → m ≡ length shown →

@@ -9,7 +9,9 @@ use Rattle.body.specs.declared.View.{View}
 use Rattle.body.specs.Body.{wordsIn}
 use Rattle.pages.specs.Page.{longestLine, pageWords, pageNumber}
 use Rattle.pages.specs.Theorems.{Theorems}
-use Rattle.pages.proofs.Sheets.{number-15, number-11, number-0, fits, most, longest, one-word, whole-sheet}
+use Rattle.pages.proofs.Pieces.{own-line}
+use Rattle.pages.proofs.Sheets.{number-15, number-11, number-0}
+use Rattle.pages.proofs.Sheets.{fits, most, goes-on, longest, one-word, whole-sheet}
 
 some : (σ : Spelling) (v : View) (body : List ℕ) (n size place : ℕ) → pageNumber σ v body n size place ≡ 0 →
     (1 ≤ pageWords σ v body n size place) × (pageWords σ v body n size place ≤ wordsIn body - n)
@@ -34,4 +36,6 @@ theorems =
       some = some;
       one-line = one-line;
       whole-sheet = λ σ s v body n size place. whole-sheet σ v body n size place s;
+      own-line = λ σ s v body n. own-line σ v body n s;
+      goes-on = goes-on;
     }

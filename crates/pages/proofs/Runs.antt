@@ -1,7 +1,7 @@
 -- How many of a row of lines fit, over any lines: one line more, and how far they go.
 use Prim.Native.Nat.{ℕ, zero, suc, _+_, _*_, _-_, _<_, _≤_}
-use mathlib.Core.Path.{_≡_, refl}
-use mathlib.Core.List.{List, [], _++_}
+use mathlib.Core.Path.{_≡_, refl, sym, ap, _∙_}
+use mathlib.Core.List.{List, [], _++_, append-assoc, append-nil}
 use native.Mathlib.Nat.{mul-suc}
 use native.Mathlib.Numerals.{add-one}
 use native.Mathlib.Decide.{decLe}
@@ -34,6 +34,34 @@ module _ (line : ℕ → List ℕ) (k n room : ℕ) where
 pub no-lines : (line : ℕ → List ℕ) (m n : ℕ) → m ≡ 0 → linesFrom line m n ≡ []
 unfolding linesFrom
 no-lines line m n e = rw e
+
+-- ── runs one after the other ──
+
+-- the lines of two runs, the second where the first ended
+pub lines-add : (line : ℕ → List ℕ) (j k n : ℕ) →
+    linesFrom line (j + k) n ≡ linesFrom line j n ++ linesFrom line k (n + j)
+unfolding linesFrom
+lines-add line zero k n =
+    let e : 0 + k ≡ k = omega arith in
+    let d : n + 0 ≡ n = omega arith in
+    rw (e, d)
+lines-add line (suc j) k n =
+    let e : suc j + k ≡ suc (j + k) = omega arith in
+    let d : n + suc j ≡ n + 1 + j = omega arith in
+    rw (e, d, append-assoc (line n) (linesFrom line j (n + 1)) (linesFrom line k (n + 1 + j)))
+    (ap (λ (l : List ℕ). line n ++ l) (lines-add line j k (n + 1)))
+
+-- the same lines, each under the number before
+module _ (line line′ : ℕ → List ℕ) (same : (i : ℕ) → line′ (i + 1) ≡ line i) where
+  pub lines-shift : (k n : ℕ) → linesFrom line′ k (n + 1) ≡ linesFrom line k n
+  unfolding linesFrom
+  lines-shift zero n = refl
+  lines-shift (suc k) n = rw (same n) (ap (λ (l : List ℕ). line n ++ l) (lines-shift k (n + 1)))
+
+  pub fitting-shift : (k n room : ℕ) → fitting line′ k (n + 1) room ≡ fitting line k n room
+  unfolding fitting
+  fitting-shift zero n room = refl
+  fitting-shift (suc k) n room = rw (same n, fitting-shift k (n + 1) (room - length (line n)))
 
 -- ── how far they go ──
 

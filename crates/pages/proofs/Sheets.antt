@@ -1,7 +1,7 @@
 -- The page by its cases, and how far it goes.
 use Prim.Native.Nat.{ℕ, suc, _+_, _*_, _-_, _≤_, _<_}
 use mathlib.Core.Path.{_≡_, sym}
-use mathlib.Core.List.{List, [], append-nil}
+use mathlib.Core.List.{List, [], _++_, append-nil}
 use native.Mathlib.Omega.{arith}
 use borrow.Author.Tests.{lt-ltb, le-ltb, eq-eqb, ne-eqb}
 use lib.ListN.{length, length-append}
@@ -13,7 +13,7 @@ use Rattle.body.specs.Body.{wordsIn}
 use Rattle.pages.specs.Lines.{linesFrom, fitting}
 use Rattle.pages.specs.Page.{wordLine, longestLine, pageWords, pageBytes, pageNumber, pageOf}
 use Rattle.pages.specs.Private.Steps.{nothing}
-use Rattle.pages.proofs.Runs.{none-fits, no-lines, run-fits, run-most, run-longest, run-all}
+use Rattle.pages.proofs.Runs.{none-fits, no-lines, lines-add, run-fits, run-most, run-longest, run-all}
 use Rattle.pages.proofs.Pieces.{columns-long, wordLine-is, line-some}
 use Rattle.pages.proofs.Answers.{answer-most}
 
@@ -69,13 +69,24 @@ module _ (σ : Spelling) (v : View) (body : List ℕ) (n size place : ℕ) where
   unfolding pageWords
   most = run-most (wordLine σ v body) (wordsIn body - n) n (size - place)
 
+  -- what comes after it begins where it ends
+  pub goes-on :
+      let next : ℕ = n + pageWords σ v body n size place in
+      pageBytes σ v body n size place ++ linesFrom (wordLine σ v body) (wordsIn body - next) next ≡
+      linesFrom (wordLine σ v body) (wordsIn body - n) n
+  unfolding pageBytes
+  goes-on =
+      let k : ℕ = pageWords σ v body n size place in
+      let e : wordsIn body - n ≡ k + (wordsIn body - (n + k)) = omega (arith, most) in
+      rw e (sym (lines-add (wordLine σ v body) k (wordsIn body - (n + k)) n))
+
   pub longest : (m : ℕ) → m ≤ wordsIn body - n → length (linesFrom (wordLine σ v body) m n) ≤ size - place →
       m ≤ pageWords σ v body n size place
   unfolding pageWords
   longest m h l = run-longest (wordLine σ v body) (wordsIn body - n) n (size - place) m h l
 
   module _ (s : Within σ) where
-    line-most : (i : ℕ) → length (wordLine σ v body i) ≤ longestLine
+    pub line-most : (i : ℕ) → length (wordLine σ v body i) ≤ longestLine
     line-most i =
         rw (wordLine-is σ v body i) (simp length-append (omega (arith, columns-long v body i, answer-most s v body i)))
 

@@ -7,7 +7,7 @@ use lib.Dec.{ltb, eqb}
 use lib.ListN.{length}
 use Rattle.refusal.specs.Numbers as refusal
 use Rattle.reading.specs.declared.Decoded.{Decoded}
-use Rattle.text.specs.Text.{textOf, numeralOf, hexOf}
+use Rattle.text.specs.Text.{textOf, numeralOf, hexOf, newline}
 use Rattle.line.specs.Line.{Spelling, lineOf, longest}
 use Rattle.body.specs.declared.View.{View}
 use Rattle.body.specs.Body.{wordsIn, addressAt, wordAt, decodedAt, isRefused}
@@ -15,9 +15,6 @@ use Rattle.pages.specs.declared.Paged.{Paged}
 use Rattle.pages.specs.Lines.{linesFrom, fitting}
 
 -- ── a line ──
-
-abbrev pub newline : ℕ
-newline = 10
 
 -- the printed line, or `refused` and the number
 unfoldable pub answerText : Spelling → Decoded → List ℕ

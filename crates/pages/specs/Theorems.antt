@@ -1,9 +1,10 @@
 -- WHAT IS PROVED OF PAGES, in every spelling. The proofs stand in proofs/Proved.antt.
-use Prim.Native.Nat.{ℕ, _*_, _-_, _≤_, _<_}
+use Prim.Native.Nat.{ℕ, _+_, _*_, _-_, _≤_, _<_}
 use mathlib.Core.Path.{_≡_}
-use mathlib.Core.List.{List}
+use mathlib.Core.List.{List, _++_}
 use lib.ListN.{length}
-use Rattle.line.specs.Line.{Spelling, Within}
+use Rattle.text.specs.Text.{OneLine}
+use Rattle.line.specs.Line.{Spelling, Within, Unbroken}
 use Rattle.body.specs.declared.View.{View}
 use Rattle.body.specs.Body.{wordsIn}
 use Rattle.pages.specs.Lines.{linesFrom}
@@ -26,3 +27,12 @@ pub record Theorems : Type 0 where
   -- and with that much room for each word, it has all of them
   pub whole-sheet : (σ : Spelling) → Within σ → (v : View) (body : List ℕ) (n size place : ℕ) →
       longestLine * (wordsIn body - n) ≤ size - place → pageWords σ v body n size place ≡ wordsIn body - n
+  -- a word's line is one line, in every spelling that writes no newline: in the bytes of a page, a line ends at the
+  -- first newline
+  pub own-line : (σ : Spelling) → Unbroken σ → (v : View) (body : List ℕ) (n : ℕ) → OneLine (wordLine σ v body n)
+  -- a page and the lines from the word after it on are the lines from its first word on: pages one after the other
+  -- pass over no line and repeat none
+  pub goes-on : (σ : Spelling) (v : View) (body : List ℕ) (n size place : ℕ) →
+      let next : ℕ = n + pageWords σ v body n size place in
+      pageBytes σ v body n size place ++ linesFrom (wordLine σ v body) (wordsIn body - next) next ≡
+      linesFrom (wordLine σ v body) (wordsIn body - n) n

@@ -8,7 +8,7 @@ ghost use Rattle.buffers.specs.Writes.{Wrote};
 ghost use Rattle.line.specs.Line.{plain, longest};
 ghost use Rattle.body.specs.Body.{wordsIn};
 ghost use Rattle.pages.specs.Page.{answerText, wordLine, textColumn, longestLine, pageWords, pageBytes, pageOf};
-ghost use Rattle.pages.specs.Private.Lines.{whole};
+ghost use Rattle.pages.specs.Lines.{whole};
 ghost use Rattle.pages.specs.Private.Steps.{Answers, columnsOf, nothing};
 use body::View;
 use reading::Decoded;

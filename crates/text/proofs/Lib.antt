@@ -2,3 +2,4 @@ pub mod Texts
 pub mod Lengths
 pub mod Digits
 pub mod Names
+pub mod Rows

@@ -2,7 +2,8 @@
 use Prim.Native.Nat.{ℕ, zero, suc, _+_, _/_, _%_}
 use Prim.Native.Char.{code}
 use Prim.Native.String.{String, len, charAt}
-use mathlib.Core.Bool.{Bool, true, false, cond, _&&_}
+use mathlib.Core.Path.{_≡_}
+use mathlib.Core.Bool.{Bool, true, false, not, cond, _&&_}
 use mathlib.Core.List.{List, [], _∷_, _++_}
 use lib.Dec.{ltb, eqb}
 use lib.IntN.{ℤ, pos, negsuc}
@@ -71,3 +72,29 @@ hexOf (suc k) n = hexOf k (n / 16) ++ (glyphOf (n % 16) ∷ [])
 unfoldable pub beforeZero : List ℕ → List ℕ
 beforeZero [] = []
 beforeZero (b ∷ bs) = cond (eqb b 0) [] (b ∷ beforeZero bs)
+
+-- ── lines ──
+
+abbrev pub newline : ℕ
+newline = 10
+
+-- no byte of the text is this one
+unfoldable pub without : ℕ → List ℕ → Bool
+without c [] = true
+without c (b ∷ bs) = not (eqb b c) && without c bs
+
+-- a byte before the first line; where there is no line, it is one
+abbrev pub longer : ℕ → List (List ℕ) → List (List ℕ)
+longer b [] = (b ∷ []) ∷ []
+longer b (l ∷ ls) = (b ∷ l) ∷ ls
+
+-- the lines of a text, each with its newline; bytes after the last newline are a line too
+unfoldable pub linesOf : List ℕ → List (List ℕ)
+linesOf [] = []
+linesOf (b ∷ bs) = cond (eqb b newline) ((newline ∷ []) ∷ linesOf bs) (longer b (linesOf bs))
+
+-- one line: a text without a newline, and a newline
+pub record OneLine (l : List ℕ) : Type 0 where
+  pub text : List ℕ
+  pub is : l ≡ text ++ (newline ∷ [])
+  pub clear : without newline text ≡ true

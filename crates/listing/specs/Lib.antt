@@ -1,0 +1,4 @@
+pub mod Swept
+pub mod Piece
+pub mod Theorems
+pub mod Private
