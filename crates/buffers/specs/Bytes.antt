@@ -17,6 +17,10 @@ overAt at l d = take at d ++ l ++ drop (at + length l) d
 abbrev pub placed : ℕ → List ℕ → List ℕ → List ℕ
 placed at l d = cond (leb (at + length l) (length d)) (overAt at l d) d
 
+-- bytes that have this much room; else none
+abbrev pub whole : List ℕ → ℕ → List ℕ
+whole l room = cond (leb (length l) room) l []
+
 -- the low k bytes of n, the lowest first
 abbrev pub lowBytes : ℕ → ℕ → List ℕ
 lowBytes zero n = []

@@ -4,7 +4,7 @@ ghost use mathlib.Core.Path.{_≡_};
 ghost use Prim.Native.Nat.{_+_, _≤_, _<_};
 ghost use lib.ListN.{length, take, drop};
 ghost use mathlib.Core.List.{[], _∷_};
-ghost use Rattle.buffers.specs.Bytes.{over, placed, lowBytes, numAt};
+ghost use Rattle.buffers.specs.Bytes.{over, placed, whole, lowBytes, numAt};
 ghost use Rattle.buffers.specs.Private.Numbers.{Stands};
 
 // Copies src to dst from place `at` on.
@@ -16,6 +16,19 @@ pub fn put(src: &[u8], dst: &mut [u8], at: usize)
             copy(src, &mut dst[at..]);
         }
     }
+}
+
+// Copies src to the start of dst if it has room there. Answers how many bytes were copied.
+pub fn put_whole(src: &[u8], dst: &mut [u8]) -> usize
+    ensures { λ r. ⌜ r ≡ length (whole (now (src .entry)) (length (now (dst .entry)))) ⌝ }
+    ensures { λ _. ⌜
+        now (dst .exit) ≡ over (whole (now (src .entry)) (length (now (dst .entry)))) (now (dst .entry)) ⌝ }
+{
+    if dst.len() < src.len() {
+        return 0;
+    }
+    copy(src, dst);
+    src.len()
 }
 
 // Copies src to the start of dst.

@@ -82,6 +82,7 @@ of-buffers : Buffers
 of-buffers =
     record {
       put = determined (λ κs a x y v w p q. (refl, refl ⨾ same p q ⨾ refl));
+      put-whole = determined (λ κs a x y v w p q. (same (p .0) (q .0), refl ⨾ same (p .1) (q .1) ⨾ refl));
       put1 = determined (λ κs a x y v w p q. (refl, refl ⨾ same p q ⨾ refl));
       put8 = determined (λ κs a x y v w p q. (refl, refl ⨾ same p q ⨾ refl));
       get2 = by-equation (λ κs a v w. refl);

@@ -20,7 +20,7 @@ use Rattle.pages.proofs.Proved as pages
 use Rattle.listing.specs.declared.Cursor.{Cursor}
 use Rattle.listing.specs.Swept.{viewIn, wordCount, counted, headLine, lineIn, totalLine, refusedLine, sweptOf}
 use Rattle.listing.specs.Piece.{lastLine, lineAt, linesIn, pieceLines, pieceBytes}
-use Rattle.listing.proofs.Rows.{joined, joined-append, rowsFrom, rows-cut}
+use Rattle.pages.proofs.Rows.{joined, joined-append, rowsFrom, rows-cut}
 use Rattle.listing.proofs.Rest.{partsFrom, allRows}
 use Rattle.listing.proofs.Whole.{all-bytes}
 

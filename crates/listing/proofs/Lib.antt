@@ -2,7 +2,6 @@ pub mod Sums
 pub mod Texts
 pub mod Ranges
 pub mod Pieces
-pub mod Rows
 pub mod Rest
 pub mod Whole
 pub mod Ends

@@ -22,11 +22,11 @@ use Rattle.listing.specs.Piece.{lastLine, lineAt, linesIn, pieceLines, p
 use Rattle.listing.specs.Piece.{cursorAfter, writtenAfter}
 use Rattle.listing.specs.Theorems.{Ended, linesBefore, allLines, written, Lines, Pieces, Theorems}
 use Rattle.listing.proofs.Sums.{sum-add, sum-more}
-use Rattle.listing.proofs.Rows.{joined, rows-long}
+use Rattle.pages.proofs.Rows.{joined, rows-long}
 use Rattle.listing.proofs.Ranges.{last-is, last-one, head-at, word-at, lines-are}
 use Rattle.listing.proofs.Pieces as piece
 use Rattle.listing.proofs.Pieces.{no-line, no-bytes}
-use Rattle.listing.proofs.Rest.{partsFrom, restRows, rest-none, rest-some, rest-first, piece-bytes, piece-count}
+use Rattle.listing.proofs.Rest.{restRows, rest-none, rest-some, rest-all, piece-bytes, piece-count}
 use Rattle.listing.proofs.Whole.{all-bytes, all-long, row-is}
 use Rattle.listing.proofs.Ends.{rows-are, one-fits, some-bytes}
 
@@ -89,9 +89,7 @@ module _ (f : List ℕ) (room : ℕ → ℕ) where
   -- what was written and what is left
   so-far : (k : ℕ) → writtenAfter f room k ++ joined (restRows f (cursorAfter f room k)) ≡ sweptOf f
   unfolding writtenAfter cursorAfter
-  so-far zero =
-      let e : countOf f + 1 - 0 ≡ countOf f + 1 = omega arith in
-      ap joined (rest-first f 0 (omega arith) ∙ rw e) ∙ all-bytes f
+  so-far zero = ap joined (rest-all f) ∙ all-bytes f
   so-far (suc k) =
       append-assoc (writtenAfter f room k) (pieceBytes f (room k) (cursorAfter f room k))
       (joined (restRows f (nextOf f (room k) (cursorAfter f room k))))
@@ -109,9 +107,7 @@ module _ (f : List ℕ) (room : ℕ → ℕ) where
   -- before the first piece
   left-first : left 0 ≡ allLines f
   unfolding cursorAfter
-  left-first =
-      let e : countOf f + 1 - 0 ≡ countOf f + 1 = omega arith in
-      ap length (rest-first f 0 (omega arith) ∙ ap (λ (k : ℕ). partsFrom f k 0) e) ∙ all-long f
+  left-first = ap length (rest-all f) ∙ all-long f
 
   -- where nothing is left, or not so
   left-none : (k : ℕ) → Ended f (cursorAfter f room k) → left k ≡ 0

@@ -5,15 +5,15 @@ use mathlib.Core.List.{List, _++_, append-nil}
 use native.Mathlib.Numerals.{add-one}
 use native.Mathlib.Decide.{decLe}
 use native.Mathlib.Omega.{arith}
-use borrow.Author.Tests.{le-leb, lt-leb, lt-ltb, le-ltb, eq-eqb, ne-eqb, eqb-true}
+use borrow.Author.Tests.{le-leb, lt-ltb, le-ltb, eq-eqb, ne-eqb, eqb-true}
 use mathlib.Core.Bool.{Bool, true, false, cond}
 use lib.Dec.{eqb, ltb}
 use lib.ListN.{length, length-append}
 use Rattle.buffers.specs.Bytes.{over, overAt}
-use Rattle.buffers.proofs.Laws.{then-at, at-start, overAt-length}
+use Rattle.buffers.proofs.Laws.{then-at, at-start, overAt-length, whole-in, whole-out, has-room, no-room}
 use Rattle.line.specs.Line.{plain}
 use Rattle.section.specs.Section.{countOf, bodyOf}
-use Rattle.pages.specs.Lines.{linesFrom, fitting, whole}
+use Rattle.pages.specs.Lines.{linesFrom, fitting}
 use Rattle.body.specs.declared.View.{View}
 use Rattle.pages.specs.declared.Paged.{Paged}
 use Rattle.pages.specs.Page.{pageWords, pageBytes, pageOf}
@@ -81,26 +81,6 @@ lines-most f n = go (ltb n (countOf f)) (eqb n (countOf f))
     go false true = omega arith
     go false false = omega arith
 
--- ── a line that has room, or none ──
-
-module _ (l : List ℕ) (room : ℕ) where
-  pub whole-fits : length l ≤ room → whole l room ≡ l
-  whole-fits h = rw (le-leb (length l) room h)
-
-  pub no-room : 0 < length l → length (whole l room) ≡ 0 → room < length l
-  no-room p z = go (decLe (length l) room)
-    where
-      go : Dec (length l ≤ room) → room < length l
-      go (yes h) = absurd (omega (arith, z, p, ap length (whole-fits h)))
-      go (no h) = omega arith
-
-  pub has-room : (length (whole l room) ≡ 0 → ⊥) → length l ≤ room
-  has-room ne = go (decLe (length l) room)
-    where
-      go : Dec (length l ≤ room) → length l ≤ room
-      go (yes h) = h
-      go (no h) = absurd (ne (rw (lt-leb (length l) room (omega arith))))
-
 -- ── what was written ──
 
 module _ (f : List ℕ) (n j : ℕ) (out : List ℕ) {out₁ : List ℕ} {size : ℕ} (put : Put (lineAt f n j) out out₁ size) where
@@ -116,7 +96,7 @@ module _ (f : List ℕ) (n j : ℕ) (out : List ℕ) {out₁ : List ℕ} {size :
       record {
         fit = rw (e, none-fits (lineAt f n) (linesIn f n - (j + 1)) j (length out) r);
         long = refl;
-        text = rw (lt-leb (length L) (length out) r) at (put .left);
+        text = rw (whole-out L (length out) r) at (put .left);
       }
 
   module _ (some : size ≡ 0 → ⊥) where
@@ -124,10 +104,10 @@ module _ (f : List ℕ) (n j : ℕ) (out : List ℕ) {out₁ : List ℕ} {size :
     room = has-room L (length out) (λ z. some (put .size-is ∙ z))
 
     pub size-long : size ≡ length L
-    size-long = put .size-is ∙ ap length (whole-fits L (length out) room)
+    size-long = put .size-is ∙ ap length (whole-in L (length out) room)
 
     line-left : out₁ ≡ over L out
-    line-left = rw (whole-fits L (length out) room) at (put .left)
+    line-left = rw (whole-in L (length out) room) at (put .left)
 
     pub put-kept : length out₁ ≡ length out
     put-kept = ap length (line-left ∙ sym (at-start L out)) ∙ overAt-length 0 L out (omega (arith, room))

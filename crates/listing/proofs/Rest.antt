@@ -11,7 +11,7 @@ use lib.ListN.{length, length-append}
 use Rattle.section.specs.Section.{countOf}
 use Rattle.listing.specs.declared.Cursor.{Cursor}
 use Rattle.listing.specs.Piece.{lineAt, linesIn, cursor, onward, pieceLines, pieceBytes, nextOf}
-use Rattle.listing.proofs.Rows.{joined, joined-append, rowsFrom, rows-joined, rows-long, rows-add}
+use Rattle.pages.proofs.Rows.{joined, joined-append, rowsFrom, rows-joined, rows-long, rows-add}
 use Rattle.listing.proofs.Ranges.{last-one, lines-are, lines-within}
 use Rattle.listing.proofs.Pieces.{most, no-line, stays, goes}
 
@@ -68,6 +68,12 @@ module _ (f : List ℕ) where
           none : Dec (linesIn f n ≤ 0) → linesIn f n ≤ 0
           none (yes z) = z
           none (no z) = absurd (l (lines-within f n 0 (omega arith)))
+
+  -- at the start
+  pub rest-all : restRows (cursor 0 0) ≡ allRows
+  rest-all =
+      let e : countOf f + 1 - 0 ≡ countOf f + 1 = omega arith in
+      rest-first 0 (omega arith) ∙ ap (λ (k : ℕ). partsFrom k 0) e
 
   -- ── a piece ──
 

@@ -28,8 +28,8 @@ unfolding totalLine textOf letters letter
 total-is f w r t = rw (t .words-are, t .refused-are)
 
 pub refused-is : (f : List ℕ) (n : ℕ) → n ≡ checked f →
-    (102 ∷ 105 ∷ 108 ∷ 101 ∷ 32 ∷ 114 ∷ 101 ∷ 102 ∷ 117 ∷ 115 ∷ 101 ∷ 100 ∷ 32 ∷ []) ++ numeralOf 10 n ++ (newline ∷ []) ≡
-    refusedLine f
+    (102 ∷ 105 ∷ 108 ∷ 101 ∷ 32 ∷ 114 ∷ 101 ∷ 102 ∷ 117 ∷ 115 ∷ 101 ∷ 100 ∷ 32 ∷ [])
+    ++ numeralOf 10 n ++ (newline ∷ []) ≡ refusedLine f
 unfolding refusedLine textOf letters letter
 refused-is f n e = rw e
 

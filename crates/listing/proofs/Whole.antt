@@ -16,7 +16,7 @@ use Rattle.listing.specs.Swept.{sectionsFrom, sweptOf}
 use Rattle.listing.specs.Piece.{lastLine, lineAt, linesIn}
 use Rattle.listing.specs.Theorems.{linesBefore, allLines}
 use Rattle.listing.proofs.Sums.{sum-add}
-use Rattle.listing.proofs.Rows.{joined, joined-append, rowsFrom, rows-joined, rows-long, row-at}
+use Rattle.pages.proofs.Rows.{joined, joined-append, rowsFrom, rows-joined, rows-long, row-at}
 use Rattle.listing.proofs.Ranges.{last-is, last-one, head-at, word-at, lines-are}
 use Rattle.listing.proofs.Rest.{partsFrom, allRows}
 

@@ -105,23 +105,14 @@ fn put_counts(before: &[u8], m: usize, between: &[u8], n: usize, out: &mut [u8])
     end + 1
 }
 
-// A line to the start of `out`; nothing if it has no room there. Answers how many bytes were written.
-fn put_whole(line: &[u8], out: &mut [u8]) -> usize
-    ensures { λ r. ⌜ Put (now (line .entry)) (now (out .entry)) (now (out .exit)) r ⌝ }
-{
-    if out.len() < line.len() {
-        return 0;
-    }
-    buffers::put(line, out, 0);
-    line.len()
-}
+// Each to the start of `out`, if it has room there. Answers how many bytes were written.
 
 fn head(file: &[u8], n: usize, out: &mut [u8]) -> usize
     ensures { λ r. ⌜ Put (headLine (now (file .entry)) n) (now (out .entry)) (now (out .exit)) r ⌝ }
 {
     let mut line = [0u8; LONGEST];
     let size = put_counts(b"section ", n, b" words ", words(file, n), &mut line);
-    put_whole(&line[..size], out)
+    buffers::put_whole(&line[..size], out)
 }
 
 fn total(file: &[u8], out: &mut [u8]) -> usize
@@ -130,7 +121,7 @@ fn total(file: &[u8], out: &mut [u8]) -> usize
     let c = count_all(file);
     let mut line = [0u8; LONGEST];
     let size = put_counts(b"words ", c.words, b" refused ", c.refused, &mut line);
-    put_whole(&line[..size], out)
+    buffers::put_whole(&line[..size], out)
 }
 
 fn refused(file: &[u8], out: &mut [u8]) -> usize
@@ -144,7 +135,7 @@ fn refused(file: &[u8], out: &mut [u8]) -> usize
         0,
     );
     buffers::put1(NEWLINE, &mut line, end);
-    put_whole(&line[..end + 1], out)
+    buffers::put_whole(&line[..end + 1], out)
 }
 
 // The last line of all.

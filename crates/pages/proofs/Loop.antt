@@ -2,14 +2,13 @@
 use Prim.Native.Nat.{ℕ, suc, _+_, _-_, _<_, _≤_}
 use mathlib.Core.Path.{_≡_, refl, sym, ap, _∙_}
 use mathlib.Core.List.{List, [], _++_, append-assoc, append-nil}
-use native.Mathlib.Decide.{decLe}
 use native.Mathlib.Omega.{arith}
-use borrow.Author.Tests.{le-leb, lt-leb}
 use lib.ListN.{length, length-append, length-drop}
 use borrow.Rule.Slice.PartMut.{putMid, midOf, put-same}
-use Rattle.buffers.specs.Bytes.{over, overAt}
+use Rattle.buffers.specs.Bytes.{over, overAt, whole}
 use Rattle.buffers.proofs.Laws.{tail-part, lent-over, over-nothing, overAt-length, then-at}
-use Rattle.pages.specs.Lines.{fitting, whole}
+use Rattle.buffers.proofs.Laws.{whole-in, whole-out, has-room, no-room}
+use Rattle.pages.specs.Lines.{fitting}
 use Rattle.pages.proofs.Runs.{run, one-fits, none-fits, run-more, no-lines}
 
 module _ (line : ℕ → List ℕ) (n place total : ℕ) (out₀ : List ℕ) where
@@ -83,10 +82,10 @@ module _ (line : ℕ → List ℕ) (n place total : ℕ) (out₀ : List ℕ) whe
       out′ = putMid at (length out - at) out ys
 
       fit : length (line k) ≤ length out₀ - at → whole (line k) (length (midOf at (length out - at) out)) ≡ line k
-      fit f = rw (room-is, le-leb (length (line k)) (length out₀ - at) f)
+      fit f = rw room-is (whole-in (line k) (length out₀ - at) f)
 
       unfit : length out₀ - at < length (line k) → whole (line k) (length (midOf at (length out - at) out)) ≡ []
-      unfit f = rw (room-is, lt-leb (length (line k)) (length out₀ - at) f)
+      unfit f = rw room-is (whole-out (line k) (length out₀ - at) f)
 
       -- the line went in
       more : length (line k) ≤ length out₀ - at → Turn out′ (k + 1) (at + m)
@@ -138,17 +137,8 @@ module _ (line : ℕ → List ℕ) (n place total : ℕ) (out₀ : List ℕ) whe
           ∙ none-fits line (total - (k + 1)) k (length out₀ - at) f))
 
       -- which of the two, by the number that came back
-      fit-or : Dec (length (line k) ≤ length out₀ - at) → (m ≡ 0 → ⊥) → length (line k) ≤ length out₀ - at
-      fit-or (yes y) ne = y
-      fit-or (no y) ne = let e : m ≡ 0 = em ∙ ap length (unfit (omega arith)) in absurd (ne e)
-
-      full-or : Dec (length (line k) ≤ length out₀ - at) → 0 < length (line k) → m ≡ 0 →
-          length out₀ - at < length (line k)
-      full-or (yes y) p z = let e : m ≡ length (line k) = em ∙ ap length (fit y) in let w : ⊥ = omega arith in absurd w
-      full-or (no y) p z = omega arith
-
       pub went : (m ≡ 0 → ⊥) → Turn out′ (k + 1) (at + m)
-      went ne = more (fit-or (decLe (length (line k)) (length out₀ - at)) ne)
+      went ne = more (has-room (line k) (length out₀ - at) (λ z. ne (em ∙ rw room-is z)))
 
       pub stopped : 0 < length (line k) → m ≡ 0 → Ends out′ k at
-      stopped p z = full (full-or (decLe (length (line k)) (length out₀ - at)) p z)
+      stopped p z = full (no-room (line k) (length out₀ - at) p (rw room-is at (sym em ∙ z)))

@@ -1,7 +1,7 @@
 -- How many of a row of lines fit, over any lines: one line more, and how far they go.
 use Prim.Native.Nat.{ℕ, zero, suc, _+_, _*_, _-_, _<_, _≤_}
-use mathlib.Core.Path.{_≡_, refl, sym, ap, _∙_}
-use mathlib.Core.List.{List, [], _++_, append-assoc, append-nil}
+use mathlib.Core.Path.{_≡_, refl, ap}
+use mathlib.Core.List.{List, [], _++_}
 use native.Mathlib.Nat.{mul-suc}
 use native.Mathlib.Numerals.{add-one}
 use native.Mathlib.Decide.{decLe}
@@ -35,21 +35,7 @@ pub no-lines : (line : ℕ → List ℕ) (m n : ℕ) → m ≡ 0 → linesFrom l
 unfolding linesFrom
 no-lines line m n e = rw e
 
--- ── runs one after the other ──
-
--- the lines of two runs, the second where the first ended
-pub lines-add : (line : ℕ → List ℕ) (j k n : ℕ) →
-    linesFrom line (j + k) n ≡ linesFrom line j n ++ linesFrom line k (n + j)
-unfolding linesFrom
-lines-add line zero k n =
-    let e : 0 + k ≡ k = omega arith in
-    let d : n + 0 ≡ n = omega arith in
-    rw (e, d)
-lines-add line (suc j) k n =
-    let e : suc j + k ≡ suc (j + k) = omega arith in
-    let d : n + suc j ≡ n + 1 + j = omega arith in
-    rw (e, d, append-assoc (line n) (linesFrom line j (n + 1)) (linesFrom line k (n + 1 + j)))
-    (ap (λ (l : List ℕ). line n ++ l) (lines-add line j k (n + 1)))
+-- ── under other numbers ──
 
 -- the same lines, each under the number before
 module _ (line line′ : ℕ → List ℕ) (same : (i : ℕ) → line′ (i + 1) ≡ line i) where

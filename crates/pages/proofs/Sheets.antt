@@ -13,7 +13,8 @@ use Rattle.body.specs.Body.{wordsIn}
 use Rattle.pages.specs.Lines.{linesFrom, fitting}
 use Rattle.pages.specs.Page.{wordLine, longestLine, pageWords, pageBytes, pageNumber, pageOf}
 use Rattle.pages.specs.Private.Steps.{nothing}
-use Rattle.pages.proofs.Runs.{none-fits, no-lines, lines-add, run-fits, run-most, run-longest, run-all}
+use Rattle.pages.proofs.Rows.{lines-add}
+use Rattle.pages.proofs.Runs.{none-fits, no-lines, run-fits, run-most, run-longest, run-all}
 use Rattle.pages.proofs.Pieces.{columns-long, wordLine-is, line-some}
 use Rattle.pages.proofs.Answers.{answer-most}
 

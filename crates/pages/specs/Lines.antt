@@ -14,7 +14,3 @@ linesFrom line (suc k) n = line n ++ linesFrom line k (n + 1)
 unfoldable pub fitting : (ℕ → List ℕ) → ℕ → ℕ → ℕ → ℕ
 fitting line zero n room = 0
 fitting line (suc k) n room = cond (leb (length (line n)) room) (fitting line k (n + 1) (room - length (line n)) + 1) 0
-
--- a line if it has room, else nothing
-abbrev pub whole : List ℕ → ℕ → List ℕ
-whole l room = cond (leb (length l) room) l []

@@ -3,12 +3,11 @@
 ghost use mathlib.Core.Path.{_≡_};
 ghost use Prim.Native.Nat.{_≤_, _<_};
 ghost use lib.ListN.{length};
-ghost use Rattle.buffers.specs.Bytes.{over, overAt};
+ghost use Rattle.buffers.specs.Bytes.{over, overAt, whole};
 ghost use Rattle.buffers.specs.Writes.{Wrote};
 ghost use Rattle.line.specs.Line.{plain, longest};
 ghost use Rattle.body.specs.Body.{wordsIn};
 ghost use Rattle.pages.specs.Page.{answerText, wordLine, textColumn, longestLine, pageWords, pageBytes, pageOf};
-ghost use Rattle.pages.specs.Lines.{whole};
 ghost use Rattle.pages.specs.Private.Steps.{Answers, columnsOf, nothing};
 use body::View;
 use reading::Decoded;
@@ -83,11 +82,7 @@ fn put_line(body: &[u8], v: View, n: usize, out: &mut [u8]) -> usize
 {
     let mut line = [0u8; LONGEST];
     let size = line_of(body, v, n, &mut line);
-    if out.len() < size {
-        return 0;
-    }
-    buffers::put(&line[..size], out, 0);
-    size
+    buffers::put_whole(&line[..size], out)
 }
 
 // The lines from word n on, as many as fit.

@@ -18,7 +18,8 @@ returns c =
     let words = counts .before .before in
     let a = words .before .before .before .before .before .args in
     let e = front (counts .put-counts .ensures) ∙ head-is (a .file .now) (a .n) _ (words .words .ensures) in
-    rw e at (put .put-whole .ensures)
+    let p = rw e at (put .put-whole .ensures) in
+    record { size-is = p .0; left = p .1 }
 
 pub head-spec : {M : Type 1} → statement M
 head-spec = tie.close (tie.spec

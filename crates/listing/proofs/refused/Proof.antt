@@ -21,7 +21,8 @@ returns c =
     let check = number .before .before in
     let f = check .before .before .before .before .args .file .now in
     let w = line-ended (omega arith) (number .put-number .ensures) (end .put1 .ensures) in
-    rw (front w ∙ refused-is f _ (check .check .ensures)) at (put .put-whole .ensures)
+    let p = rw (front w ∙ refused-is f _ (check .check .ensures)) at (put .put-whole .ensures) in
+    record { size-is = p .0; left = p .1 }
 
 pub refused-spec : {M : Type 1} → statement M
 refused-spec = tie.close (tie.spec

@@ -18,7 +18,8 @@ returns c =
     let all = counts .before .before .before .before in
     let f = all .before .before .before .args .file .now in
     let e = front (counts .put-counts .ensures) ∙ total-is f _ _ (all .count-all .ensures) in
-    rw e at (put .put-whole .ensures)
+    let p = rw e at (put .put-whole .ensures) in
+    record { size-is = p .0; left = p .1 }
 
 pub total-spec : {M : Type 1} → statement M
 total-spec = tie.close (tie.spec

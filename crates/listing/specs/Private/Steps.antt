@@ -3,8 +3,8 @@ use Prim.Native.Nat.{ℕ, _-_}
 use mathlib.Core.Path.{_≡_}
 use mathlib.Core.List.{List}
 use lib.ListN.{length}
-use Rattle.buffers.specs.Bytes.{over}
-use Rattle.pages.specs.Lines.{linesFrom, fitting, whole}
+use Rattle.buffers.specs.Bytes.{over, whole}
+use Rattle.pages.specs.Lines.{linesFrom, fitting}
 use Rattle.listing.specs.Swept.{wordCount, refusedCount, sumFrom}
 use Rattle.listing.specs.Piece.{lineAt, linesIn}
 

@@ -1,5 +1,5 @@
--- `sweep::list` asks for the pieces of the listing one after the other, hands each to `write`, stays inside its page, and
--- ends.
+-- `sweep::list` asks for the pieces of the listing one after the other, hands each to `write`, stays inside its page,
+-- and ends.
 use borrow.Author.Needs.{needs}
 use Prim.Native.Nat.{ℕ, suc, _≤_}
 use mathlib.Core.Path.{_≡_, refl, sym, ap, subst, _∙_}

@@ -1,4 +1,5 @@
--- Lines as a list of them, which has their number and their bytes.
+-- Lines as a list of them, which has their number and their bytes: runs one after the other, and each line by its
+-- place.
 use Prim.Native.Nat.{ℕ, zero, suc, _+_, _<_}
 use mathlib.Core.Path.{_≡_, refl, sym, ap, _∙_}
 use mathlib.Core.List.{List, [], _∷_, _++_, append-assoc}
@@ -46,6 +47,12 @@ module _ (line : ℕ → List ℕ) where
       let e : suc j + k ≡ suc (j + k) = omega arith in
       let d : n + suc j ≡ n + 1 + j = omega arith in
       rw (e, d) (ap (λ (x : List (List ℕ)). line n ∷ x) (rows-add j k (n + 1)))
+
+  -- in bytes
+  pub lines-add : (j k n : ℕ) → linesFrom line (j + k) n ≡ linesFrom line j n ++ linesFrom line k (n + j)
+  lines-add j k n =
+      rw (← rows-joined (j + k) n, ← rows-joined j n, ← rows-joined k (n + j), rows-add j k n)
+      (joined-append (rowsFrom line j n) (rowsFrom line k (n + j)))
 
   -- line n + i is the one at place i, whatever comes after
   pub row-at : (k n i : ℕ) (rest : List (List ℕ)) → i < k → getD (rowsFrom line k n ++ rest) i [] ≡ line (n + i)
