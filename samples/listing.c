@@ -60,8 +60,12 @@ int main(int count, char **arguments)
                 MOST_ROOM);
         return STATUS_USAGE;
     }
-    if (!read_file(arguments[1], file, &length) || !list_file(file, length, room)) {
+    if (!read_file(arguments[1], file, &length)) {
         perror(arguments[1]);
+        return EXIT_FAILURE;
+    }
+    if (!list_file(file, length, room)) {
+        perror("the listing could not be written");
         return EXIT_FAILURE;
     }
     /* That it is refused stands in the listing. */

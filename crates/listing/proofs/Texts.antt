@@ -8,7 +8,7 @@ use lib.Dec.{eqb}
 use lib.ListN.{length, length-append}
 use Rattle.buffers.specs.Bytes.{placed}
 use Rattle.buffers.specs.Writes.{Wrote}
-use Rattle.buffers.proofs.Writes.{wrote, bound, after, kept}
+use Rattle.buffers.proofs.Writes.{wrote, after, kept}
 use Rattle.text.specs.Text.{newline, letter, letters, textOf, numeralOf}
 use Rattle.section.specs.Section.{checked, countOf}
 use Rattle.listing.specs.Swept.{wordCount, counted, headLine, totalLine, refusedLine}
@@ -43,14 +43,13 @@ line-ended {m} {q} {l} {d} {d₁} {d₂} h u e =
 
 -- two texts with their numbers and a newline, one after the other
 module _ (a b : List ℕ) (x y : ℕ) where
-  pub counts-written : {m₁ m₂ m p q : ℕ} {d d₁ d₂ d₃ : List ℕ} → m₁ + m₂ + 1 ≤ m → m ≤ length d →
+  pub counts-written : {m₁ m₂ p q : ℕ} {d d₁ d₂ d₃ : List ℕ} → m₁ + m₂ + 1 ≤ length d →
       Wrote 0 m₁ (a ++ numeralOf 10 x) d d₁ p → Wrote p m₂ (b ++ numeralOf 10 y) d₁ d₂ q →
-      d₃ ≡ placed q (newline ∷ []) d₂ → Wrote 0 m (counted a x b y) d d₃ (q + 1)
-  counts-written {m₁} {m₂} {m} {p} {q} {d} {d₁} {d₂} {d₃} h g u v w =
-      let all = line-ended (omega arith) (after u v (omega arith)) w in
+      d₃ ≡ placed q (newline ∷ []) d₂ → Wrote 0 (m₁ + m₂ + 1) (counted a x b y) d d₃ (q + 1)
+  counts-written {m₁} {m₂} {p} {q} {d} {d₁} {d₂} {d₃} h u v w =
       let e : a ++ numeralOf 10 x ++ (b ++ numeralOf 10 y) ++ (newline ∷ []) ≡ counted a x b y =
       ap (λ (l : List ℕ). l ++ (newline ∷ [])) (sym (append-assoc (a ++ numeralOf 10 x) b (numeralOf 10 y))) in
-      subst (λ (l : List ℕ). Wrote 0 m l d d₃ (q + 1)) e (bound (omega (arith, all .short)) all)
+      subst (λ (l : List ℕ). Wrote 0 (m₁ + m₂ + 1) l d d₃ (q + 1)) e (line-ended h (after u v (omega arith)) w)
 
 -- none of them is empty
 

@@ -11,7 +11,7 @@ ghost use Rattle.text.specs.Text.{numeralOf};
 ghost use Rattle.section.specs.Section.{countOf};
 ghost use Rattle.listing.specs.Swept.{viewIn, wordCount, counted, headLine, totalLine, refusedLine};
 ghost use Rattle.listing.specs.Piece.{onward, linesIn, lastLine, pieceBytes, pieceOf};
-ghost use Rattle.listing.specs.Private.Steps.{digits, longestCounts, Totals, Put, Ran};
+ghost use Rattle.listing.specs.Private.Steps.{digits, Totals, Put, Ran};
 use body::View;
 
 // Where a listing goes on. Line 0 of a section is its head, line w + 1 that of word w; in the place of one more section
@@ -91,37 +91,32 @@ fn put_number(before: &[u8], n: usize, out: &mut [u8], at: usize) -> usize
     end + text::count(n as u64, out, end)
 }
 
-// Two of these, and a newline.
-fn put_counts(before: &[u8], m: usize, between: &[u8], n: usize, out: &mut [u8]) -> usize
-    requires { ⌜
-        (length (now before) + length (now between) ≤ 15) × (length (now out) ≡ longestCounts) ⌝ }
-    ensures { λ r. ⌜
-        Wrote 0 longestCounts (counted (now (before .entry)) m (now (between .entry)) n)
-        (now (out .entry)) (now (out .exit)) r ⌝ }
-{
-    let at = put_number(before, m, out, 0);
-    let end = put_number(between, n, out, at);
-    buffers::put1(NEWLINE, out, end);
-    end + 1
-}
+// Each of these writes its line to the start of `out`, if it has room there. Answers how many bytes were written.
 
-// Each to the start of `out`, if it has room there. Answers how many bytes were written.
+// Two texts, each with a number after it.
+fn put_counts(before: &[u8], m: usize, between: &[u8], n: usize, out: &mut [u8]) -> usize
+    requires { ⌜ length (now before) + length (now between) ≤ 15 ⌝ }
+    ensures { λ r. ⌜
+        Put (counted (now (before .entry)) m (now (between .entry)) n) (now (out .entry)) (now (out .exit)) r ⌝ }
+{
+    let mut line = [0u8; LONGEST];
+    let at = put_number(before, m, &mut line, 0);
+    let end = put_number(between, n, &mut line, at);
+    buffers::put1(NEWLINE, &mut line, end);
+    buffers::put_whole(&line[..end + 1], out)
+}
 
 fn head(file: &[u8], n: usize, out: &mut [u8]) -> usize
     ensures { λ r. ⌜ Put (headLine (now (file .entry)) n) (now (out .entry)) (now (out .exit)) r ⌝ }
 {
-    let mut line = [0u8; LONGEST];
-    let size = put_counts(b"section ", n, b" words ", words(file, n), &mut line);
-    buffers::put_whole(&line[..size], out)
+    put_counts(b"section ", n, b" words ", words(file, n), out)
 }
 
 fn total(file: &[u8], out: &mut [u8]) -> usize
     ensures { λ r. ⌜ Put (totalLine (now (file .entry))) (now (out .entry)) (now (out .exit)) r ⌝ }
 {
     let c = count_all(file);
-    let mut line = [0u8; LONGEST];
-    let size = put_counts(b"words ", c.words, b" refused ", c.refused, &mut line);
-    buffers::put_whole(&line[..size], out)
+    put_counts(b"words ", c.words, b" refused ", c.refused, out)
 }
 
 fn refused(file: &[u8], out: &mut [u8]) -> usize

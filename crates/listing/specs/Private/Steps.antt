@@ -12,9 +12,6 @@ use Rattle.listing.specs.Piece.{lineAt, linesIn}
 abbrev pub digits : ℕ
 digits = 20
 
-abbrev pub longestCounts : ℕ
-longestCounts = 56
-
 -- the counts of the first n sections
 pub record Totals (f : List ℕ) (n words refused : ℕ) : Type 0 where
   pub words-are : words ≡ sumFrom (wordCount f) n 0
