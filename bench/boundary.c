@@ -1,6 +1,6 @@
-/* Calls the library through its C boundary, for bench/run to count instructions. `boundary decode` makes the record of each word of
-   standard input and adds parts of the records up; `boundary encode` makes all records first and then the word of each accepted one.
-   With the input's switch off everything is done but the call that is measured. */
+/* Calls the library through its C boundary, so that bench/run can count instructions. `boundary decode` makes the
+   record of each word of standard input and adds up parts of the records; `boundary encode` makes all records first and
+   then the word of each accepted one. With the input's switch off everything is done except the measured call. */
 #include <inttypes.h>
 
 #include "calmuredda.h"
@@ -8,7 +8,8 @@
 
 enum { FIRST_REGISTER = CALMUREDDA_AT_OPERAND(0) + CALMUREDDA_IN_REGISTER };
 
-/* The compiler could work out beforehand what a run without the call adds up; so it is told that this memory may have changed. */
+/* The compiler could work out beforehand what a run without the call adds up to; so it is told that this memory may
+   have changed. */
 static inline void forget(void *memory)
 {
     __asm__ volatile("" : : "r"(memory) : "memory");

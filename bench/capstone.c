@@ -1,6 +1,6 @@
-/* Capstone on the words of standard input, one call for each, for bench/run to count instructions. `capstone plain` takes what it gives
-   without being asked, id and text; `capstone detail` has the operands, registers and groups filled in as well. With the input's switch
-   off everything is done but the call. A word that is refused is stepped over. */
+/* Capstone on the words of standard input, one call for each, so that bench/run can count instructions. `capstone
+   plain` takes what it gives by default, id and text; `capstone detail` has the operands, registers and groups filled
+   in as well. With the input's switch off everything is done except the call. A word that is refused is skipped. */
 #include <capstone/capstone.h>
 
 #include "input.h"
@@ -8,7 +8,8 @@
 static csh open_for(const struct input *in, const char *doing)
 {
     csh handle;
-    int mode = (in->wide ? CS_MODE_MIPS64 : CS_MODE_MIPS32) | (in->big ? (int)CS_MODE_BIG_ENDIAN : CS_MODE_LITTLE_ENDIAN);
+    int mode = (in->wide ? CS_MODE_MIPS64 : CS_MODE_MIPS32) |
+               (in->big ? (int)CS_MODE_BIG_ENDIAN : CS_MODE_LITTLE_ENDIAN);
     bool detail = strcmp(doing, "detail") == 0;
     if (!detail && strcmp(doing, "plain") != 0) {
         stop("capstone plain, or capstone detail");

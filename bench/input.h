@@ -1,5 +1,6 @@
-/* What the programs in C read, as the others of bench/run do: a byte that switches on what is measured, the width flag, a byte that says
-   whether the words are to lie as big-endian bytes, a byte that is not looked at; then the words, as little-endian bytes. */
+/* What the programs in C read, as the others of bench/run do: a byte that switches on what is measured, the width flag,
+   a byte that says whether the words should be given as big-endian bytes, a byte without a meaning; then the words, as
+   little-endian bytes. */
 #ifndef BENCH_INPUT_H
 #define BENCH_INPUT_H
 

@@ -1,5 +1,5 @@
-# Shared by the scripts of bench/: words to count over, the counting of a run, and the table. A script sets root, bench and out, reads
-# tools/lib.sh and then this file.
+# Shared by the scripts of bench/: words to count over, the counting of a run, and the table. A script sets root, bench
+# and out, reads tools/lib.sh and then this file.
 # shellcheck shell=sh
 # shellcheck disable=SC2154
 
@@ -19,7 +19,8 @@ fetch() {
     mv "$out/$1.part" "$out/$1.words"
 }
 
-# input NAME SWITCH WIDE BIG: what the programs read. With the switch on they do what is measured, with it off all but that.
+# input NAME SWITCH WIDE BIG: what the programs read. With the switch on they do what is measured, with it off
+# everything else.
 input() {
     # shellcheck disable=SC2059
     printf "\\00$2\\00$3\\00$4\\000" | cat - "$out/$1.words" >"$out/$1.in$2"
@@ -40,31 +41,35 @@ choose_counter() {
             libraries=/
             [ -e /lib64/ld-linux-x86-64.so.2 ] || libraries=/usr/x86_64-linux-gnu
             [ -e $libraries/lib64/ld-linux-x86-64.so.2 ] || [ -e $libraries/lib/ld-linux-x86-64.so.2 ] ||
-                install_package libc6-amd64-cross || failed "the x86-64 C library cannot be had (package libc6-amd64-cross)"
+                install_package libc6-amd64-cross ||
+                failed "the x86-64 C library cannot be had (package libc6-amd64-cross)"
             ;;
         *) failed "COUNTER is valgrind or qemu" ;;
     esac
 }
 
-# counted LABEL SWITCH WORD..: runs the words over standard input and sets count, the instructions of the whole run. What they print goes to
-# $out/LABEL.sumSWITCH.
+# counted LABEL SWITCH WORD..: runs the words over standard input and sets count, the instructions of the whole run.
+# What they print goes to $out/LABEL.sumSWITCH.
 counted() {
     sum=$out/$1.sum$2
     said=$out/$1.said$2
     calls=$out/$1.calls$2
     shift 2
     if [ "$COUNTER" = valgrind ]; then
-        valgrind --tool=callgrind --callgrind-out-file="$calls" "$@" >"$sum" 2>"$said" || failed "$* does not run; see $said"
+        valgrind --tool=callgrind --callgrind-out-file="$calls" "$@" >"$sum" 2>"$said" ||
+            failed "$* does not run; see $said"
         count=$(awk '/Collected/ {print $NF}' "$said")
     else
-        qemu-x86_64 -L "$libraries" -plugin "$out/plugin.so" "$@" >"$sum" 2>"$said" || failed "$* does not run; see $said"
+        qemu-x86_64 -L "$libraries" -plugin "$out/plugin.so" "$@" >"$sum" 2>"$said" ||
+            failed "$* does not run; see $said"
         count=$(awk '/^instructions/ {print $2}' "$said")
     fi
     [ -n "$count" ] || failed "no count for $*; see $said"
 }
 
-# total RUN NAME SWITCH: sets count for a run over the input of that name and switch; what it prints goes to $out/RUN.NAME.sumSWITCH. A run is
-# named by its program, or by the program and the word that it is given: boundary-decode is `boundary decode`.
+# total RUN NAME SWITCH: sets count for a run over the input of that name and switch; what it prints goes to
+# $out/RUN.NAME.sumSWITCH. A run is named by its program, or by the program and the word that it is given:
+# boundary-decode is `boundary decode`.
 total() {
     input=$out/$2.in$3
     case $1 in
@@ -87,16 +92,24 @@ alone() {
         awk -v function_name="$3 [" 'index($0, function_name) {print $1; exit}'
 }
 
-# measure RUN NAME FUNCTION: sets all_told, and in_function, with valgrind what the function takes.
+# measure RUN NAME FUNCTION..: sets all_told, and in_function, with valgrind what the functions take, none of which
+# calls another of them.
 measure() {
-    added "$1" "$2"
+    run=$1
+    name=$2
+    shift 2
+    added "$run" "$name"
     in_function=-
     [ "$COUNTER" = valgrind ] || return 0
-    in_function=$(alone "$1" "$2" "$3")
-    [ -n "$in_function" ] || failed "$3 is no function of its own in $1, so that it cannot be counted alone"
+    in_function=0
+    for function in "$@"; do
+        count=$(alone "$run" "$name" "$function")
+        [ -n "$count" ] || failed "$function is not a function of its own in $run, so that it cannot be counted alone"
+        in_function=$((in_function + count))
+    done
 }
 
-# ── figures; what is not counted is - ──
+# ── figures; `-` is for what is not counted ──
 
 per_word() {
     [ "$1" != - ] || { echo - && return 0; }
@@ -108,7 +121,7 @@ ratio() {
     awk -v a="$1" -v b="$2" 'BEGIN {printf "%.2f", a / b}'
 }
 
-# hold FIGURE LIMIT TEXT: adds the text to what is above a limit, if the figure is.
+# hold FIGURE LIMIT TEXT: if the figure is above the limit, adds the text to the list of such figures.
 hold() {
     [ "$1" != - ] || return 0
     awk -v x="$1" -v limit="$2" 'BEGIN {exit !(x <= limit)}' || above="$above $3;"

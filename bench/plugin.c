@@ -1,5 +1,5 @@
-/* For qemu's user emulator (plugin interface, version 1): prints `instructions N` on standard error when the program ends.
-   The declarations are those of qemu-plugin.h, which Debian's package does not carry. */
+/* For qemu's user emulator (plugin interface, version 1): prints `instructions N` on standard error when the program
+   ends. The declarations are those of qemu-plugin.h, which Debian's package does not have. */
 #include <inttypes.h>
 #include <stddef.h>
 #include <stdint.h>

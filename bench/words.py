@@ -1,4 +1,5 @@
-"""words.py FILE [big]: the words of an ELF file's .text on standard output, little-endian or big-endian, in the order of the file."""
+"""words.py FILE [big]: the words of an ELF file's .text on standard output, little-endian or big-endian, in the order
+of the file."""
 
 import struct
 import sys

@@ -1,15 +1,15 @@
-/* Calmuredda for a host program in C: a word of MIPS code to a packed record, a record back to its smallest word or to
-   its printed line; section files, the blocks and listing pages of their bodies, and listings of whole files.
+/* Calmuredda for a host program in C: from a word of MIPS code to a packed record, and from a record to its smallest
+   word or its printed line; section files, the blocks and listing pages of their bodies, and listings of whole files.
 
    Link with libcalmuredda.a, which is for x86-64 and the System V calling convention. The library allocates nothing,
-   keeps no pointer and has no state; of the C library it needs memcpy and memset at most. What is lent to a call is
-   used during that call only. Any number of threads may call at once, as long as no two calls write to one buffer and
-   nobody writes to what a call reads.
+   keeps no pointer and has no state; of the C library it needs at most memcpy and memset. What is lent to a call is
+   used during that call only. Any number of threads may call at once, as long as no two calls write to the same buffer
+   and no thread writes to what a call reads.
 
    A slice is a pointer and a length in bytes. With length 0 the pointer may be null and is not followed. No pointer to
-   bytes needs any alignment. A pointer to one number (size_t *, uint8_t *kind) is not null, is aligned as that type is,
-   and must not overlap any other argument; the number is written at every call, and what it was before does not
-   matter. */
+   bytes needs any alignment. A pointer to one number (size_t *, uint8_t *kind) must not be null, must be aligned for
+   its type, and must not overlap any other argument; the number is written at every call, and what it was before does
+   not matter. */
 #ifndef CALMUREDDA_H
 #define CALMUREDDA_H
 
@@ -20,7 +20,7 @@
 extern "C" {
 #endif
 
-/* What the functions answer: 0, or why not. 2 to 8 name the table of the manual that has no such word. */
+/* What the functions return: 0, or why they refuse. 2 to 8 name the table of the manual that has no such word. */
 enum {
     CALMUREDDA_ACCEPTED = 0,
     CALMUREDDA_SHORT = 1,         /* fewer than four bytes to decode */
@@ -31,21 +31,21 @@ enum {
     CALMUREDDA_COP1 = 6,
     CALMUREDDA_SPECIAL2 = 7,
     CALMUREDDA_SPECIAL3 = 8,
-    CALMUREDDA_NO_WORD = 9,       /* no word has the record at that address under that flag, or no reading has it */
-    CALMUREDDA_NO_LINE = 10,      /* over 4 operands, or a register above 31 in one that is used */
+    CALMUREDDA_NO_WORD = 9,       /* no word has the record at that address and flag, or no reading has it */
+    CALMUREDDA_NO_LINE = 10,      /* more than 4 operands, or a register above 31 in a used one */
     CALMUREDDA_NO_ROOM = 11,      /* the line, or the first line of a page or piece, has no room */
-    CALMUREDDA_BAD_HEADER = 12,   /* a file's length, count, flags or total, or its records are cut off */
+    CALMUREDDA_BAD_HEADER = 12,   /* a file's length, count, flags or total is wrong, or its records are cut off */
     CALMUREDDA_BAD_RECORD = 13,   /* a record of a file breaks its rules */
-    CALMUREDDA_NO_SECTION = 14,   /* the file is good and has no section of that number */
+    CALMUREDDA_NO_SECTION = 14,   /* the file is good but has no section of that number */
     CALMUREDDA_NO_INDEX = 15,     /* the body has no word of that index */
-    CALMUREDDA_SHORT_RECORD = 16  /* fewer than 80 bytes for the record, or of it */
+    CALMUREDDA_SHORT_RECORD = 16  /* fewer than 80 bytes for the record, or in it */
 };
 
-/* The record: 80 bytes. Numbers of more than one byte are little-endian, negative ones two's complement; what is absent
-   is 0. */
+/* The record: 80 bytes. Numbers of more than one byte are little-endian, negative ones in two's complement; what is
+   absent is 0. */
 enum {
     CALMUREDDA_RECORD_BYTES = 80,
-    CALMUREDDA_AT_NUMBER = 0,     /* 0, or the number of the refusal; then all other bytes are 0 */
+    CALMUREDDA_AT_NUMBER = 0,     /* 0, or the refusal number; then all other bytes are 0 */
     CALMUREDDA_AT_FLOW = 1,       /* CALMUREDDA_FLOW_.. */
     CALMUREDDA_AT_MARKS = 2,      /* CALMUREDDA_DELAY_SLOT and CALMUREDDA_HAS_TARGET, added up */
     CALMUREDDA_AT_COUNT = 3,      /* how many operands: 0 to 4 */
@@ -79,7 +79,7 @@ enum {
 
     CALMUREDDA_EFFECT_NONE = 0,
     CALMUREDDA_EFFECT_SET_ADDR = 1, /* first register = value (lui) */
-    CALMUREDDA_EFFECT_ADD_IMM = 2,  /* first = second with value added, or for ori or-ed */
+    CALMUREDDA_EFFECT_ADD_IMM = 2,  /* first = second + value, or for ori second | value */
     CALMUREDDA_EFFECT_MEM = 3,      /* size bytes at second + value; first is loaded, or 0 */
     CALMUREDDA_EFFECT_WRITE = 4,    /* first is written */
 
@@ -90,11 +90,11 @@ enum {
 /* Decodes the first four of `bytes` as the word at address `va`, which may be any number. The bytes after them do not
    matter.
 
-   big: the four bytes are in big-endian order, else in little-endian.
-   wide: the code is MIPS64. It matters to SPECIAL 45 with rt zero alone, which is `move` with it and `daddu` without.
+   big: the four bytes are in big-endian order, else in little-endian order.
+   wide: the code is MIPS64. It matters only to SPECIAL 45 with rt zero, which is `move` with it and `daddu` without.
    Each of the two is a number: 0 is off, any other number is on.
 
-   Answers a number and writes the record to `record`:
+   Returns a number and writes the record to `record`:
      record_len below 80           CALMUREDDA_SHORT_RECORD, whatever the other arguments are; nothing is written
      else bytes_len below 4        CALMUREDDA_SHORT
      else                          CALMUREDDA_ACCEPTED, or CALMUREDDA_OP to CALMUREDDA_SPECIAL3
@@ -106,12 +106,12 @@ uint8_t calmuredda_decode(const uint8_t *bytes, size_t bytes_len, uint64_t va, u
 /* Encodes the first 80 bytes of `record`, at address `va` and under the flag `wide`. The bytes after them do not
    matter.
 
-   Answers two numbers in one, which CALMUREDDA_NUMBER and CALMUREDDA_WORD take apart:
+   Returns two numbers in one, which CALMUREDDA_NUMBER and CALMUREDDA_WORD take apart:
      record_len below 80           CALMUREDDA_SHORT_RECORD and word 0
-     a word's record, there        CALMUREDDA_ACCEPTED and the smallest word that has it
-     anything else                 CALMUREDDA_NO_WORD and word 0; a refusal's record too
-   Several words can have the same record, so that the answer may differ from the word that was decoded; it decodes to
-   the same 80 bytes. It is a number: to put it into code, write its four bytes in the order of that code. `record` is
+     the record of a word there    CALMUREDDA_ACCEPTED and the smallest word that has it
+     anything else                 CALMUREDDA_NO_WORD and word 0; also for a refusal's record
+   Several words can have the same record, so the answer may differ from the word that was decoded; it decodes to the
+   same 80 bytes. It is a number: to put it into code, write its four bytes in the byte order of that code. `record` is
    only read. */
 uint64_t calmuredda_encode(const uint8_t *record, size_t record_len, uint64_t va, uint8_t wide);
 
@@ -123,10 +123,10 @@ uint64_t calmuredda_encode(const uint8_t *record, size_t record_len, uint64_t va
 /* Prints the line of the reading whose record is in the first 80 bytes of `record`: `lw v0, 16(a0)`, without a newline
    or a zero after it.
 
-   Answers a number and sets *written to how many bytes the line has, 0 for a refusal:
+   Returns a number and sets *written to how many bytes the line has, 0 for a refusal:
      record_len below 80           CALMUREDDA_SHORT_RECORD
-     else not a reading's record   CALMUREDDA_NO_WORD; a refusal's record too, and one whose name is not a mnemonic
-     else no line                  CALMUREDDA_NO_LINE
+     else not a reading's record   CALMUREDDA_NO_WORD; also for a refusal's record or an unknown mnemonic
+     else it has no line           CALMUREDDA_NO_LINE
      else longer than out_len      CALMUREDDA_NO_ROOM
      else                          CALMUREDDA_ACCEPTED, and the line is at the start of `out`
    Bytes of `out` past the line stay as they are; after a refusal all do. Any line fits in CALMUREDDA_LINE_BYTES.
@@ -138,7 +138,7 @@ enum { CALMUREDDA_LINE_BYTES = 120 };
 /* A section file: at most 65,535 bytes; numbers are little-endian.
      0 count u16 (1 to 64)   2 flags u16   4 total length u32   8 a record of 16 bytes for each section
      in a record: 0 address u64   8 offset u32   12 length u32 (at least 4, a multiple of 4)
-   Bodies stand after the last record, in rising offsets, without overlap, inside the file. */
+   Bodies come after the last record, in rising offsets, without overlap, inside the file. */
 enum {
     CALMUREDDA_BIG_ENDIAN = 1,    /* flags: the words are big-endian */
     CALMUREDDA_WIDE = 2           /* flags: the code is MIPS64 */
@@ -154,21 +154,21 @@ uint8_t calmuredda_section_flags(const uint8_t *file, size_t file_len);
 /* The address of section n, from 0 on; 0 if the file is not good or has no such section. */
 uint64_t calmuredda_section_address(const uint8_t *file, size_t file_len, size_t n);
 
-/* Where the body of section n is: the *size bytes from file + *offset on. Answers CALMUREDDA_ACCEPTED; or, with *offset
+/* Where the body of section n is: the *size bytes from file + *offset on. Returns CALMUREDDA_ACCEPTED; or, with *offset
    and *size 0, CALMUREDDA_BAD_HEADER, then CALMUREDDA_BAD_RECORD, whichever section is bad, then
    CALMUREDDA_NO_SECTION. */
 uint8_t calmuredda_section_body(const uint8_t *file, size_t file_len, size_t n, size_t *offset, size_t *size);
 
 /* A body is any run of bytes; its words are its first body_len / 4 * 4 bytes. Word n is at address va + 4 * n, modulo
-   2^64. `flags` are those of a section file, as calmuredda_section_flags answers them: CALMUREDDA_BIG_ENDIAN and
+   2^64. `flags` are those of a section file, as calmuredda_section_flags returns them: CALMUREDDA_BIG_ENDIAN and
    CALMUREDDA_WIDE, added up. The other bits have no meaning and are ignored. */
 
 /* The block from word `index` on: the words up to the first one with a delay slot, and the word in that slot.
 
-   Answers CALMUREDDA_ACCEPTED, sets *kind to how the block ends and *words to how many words it has. With an index that
-   the body does not have it answers CALMUREDDA_NO_INDEX, and both are 0. A caller that walks a body block by block must
-   skip the refused word after a block of kind CALMUREDDA_END_REFUSED, and of CALMUREDDA_END_NO_SLOT where there
-   is one. */
+   Returns CALMUREDDA_ACCEPTED, sets *kind to how the block ends and *words to how many words it has. For an index that
+   the body does not have it returns CALMUREDDA_NO_INDEX, and both are 0. A caller that walks a body block by block must
+   skip the refused word after a block of kind CALMUREDDA_END_REFUSED, and after one of kind CALMUREDDA_END_NO_SLOT if
+   there is one. */
 uint8_t calmuredda_block(const uint8_t *body, size_t body_len, uint64_t va, uint8_t flags, size_t index,
                          uint8_t *kind, size_t *words);
 
@@ -182,11 +182,11 @@ enum {
 /* Lists words from word `index` on, into `out` from byte `place` on: for each word a line of address (16 hex digits),
    space, word (8 hex digits), space, the printed line or `refused` and the number, newline.
 
-   It writes the longest run of whole lines that fits. Answers CALMUREDDA_ACCEPTED, sets *words to how many words are
-   listed and *bytes to how many bytes that took; all other bytes of `out` stay as they are. With an index that the body
-   does not have it answers CALMUREDDA_NO_INDEX; then, if not one line fits or `place` is past the end,
-   CALMUREDDA_NO_ROOM: nothing is written, and both numbers are 0. The next page begins at index + *words. Any line of a
-   page fits in CALMUREDDA_PAGE_LINE_BYTES. `body` and `out` must not overlap. */
+   It writes the longest run of whole lines that fits. Returns CALMUREDDA_ACCEPTED, sets *words to how many words are
+   listed and *bytes to how many bytes that took; all other bytes of `out` stay as they are. For an index that the body
+   does not have it returns CALMUREDDA_NO_INDEX; then, if not one line fits or `place` is past the end,
+   CALMUREDDA_NO_ROOM. In both cases nothing is written, and both numbers are 0. The next page begins at index + *words.
+   Any line of a page fits in CALMUREDDA_PAGE_LINE_BYTES. `body` and `out` must not overlap. */
 uint8_t calmuredda_page(const uint8_t *body, size_t body_len, uint64_t va, uint8_t flags, size_t index,
                         uint8_t *out, size_t out_len, size_t place, size_t *words, size_t *bytes);
 
@@ -197,18 +197,18 @@ enum { CALMUREDDA_PAGE_LINE_BYTES = 147 };
    The cursor is two numbers, section and line. Line 0 of section N is `section N words M`, and line w + 1 is that of
    its word w, as in a page. In the place of one more section, line 0 is the last line of all, `words W refused R`. A
    file that is not good, such as any of 65,536 bytes or more, has no sections: its only line, line 0 of section 0, is
-   `file refused N` with the number that calmuredda_section_check answers. Each line ends with a newline.
+   `file refused N` with the number that calmuredda_section_check returns. Each line ends with a newline.
 
    It writes to the start of `out` the longest run of whole lines that fits, from the cursor on and of that one section.
-   Answers CALMUREDDA_ACCEPTED, sets *bytes to how many bytes that took, and *next_section and *next_line to where the
+   Returns CALMUREDDA_ACCEPTED, sets *bytes to how many bytes that took, and *next_section and *next_line to where the
    listing goes on: at the next line of the section, or at line 0 of section + 1 after its last line and after the last
-   line of all. All other bytes of `out` stay as they are. If the line at the cursor does not fit it answers
+   line of all. All other bytes of `out` stay as they are. If the line at the cursor does not fit it returns
    CALMUREDDA_NO_ROOM: nothing is written, *bytes is 0 and the next cursor is the same.
 
-   Any two numbers are a cursor. Where there is no line, nothing is left: whatever out_len is, it answers
+   Any two numbers are a cursor. Where there is no line, nothing is left: whatever out_len is, it returns
    CALMUREDDA_ACCEPTED, *bytes is 0 and the next cursor is the same. So a host starts with line 0 of section 0, or with
    any other line, and goes on until *bytes is 0. Any line fits in CALMUREDDA_PAGE_LINE_BYTES; with that much room there
-   are at most as many pieces as lines, which are all words, all sections and one more.
+   are at most as many pieces as lines: one for each word, one for each section, and one more.
 
    `file` is only read. `file` and `out` must not overlap. The cursor is handed over by value, so the next one may be
    written to the same variables. */

@@ -10,7 +10,7 @@
 
 #include "calmuredda.h"
 
-/* One byte more than a section file may have, so that a file which is too long is seen. */
+/* One byte more than a section file may have, so that a file which is too long is noticed. */
 enum { FILE_BYTES = 65536, PAGE_BYTES = 4096, WORD_BYTES = 4, STATUS_USAGE = 2 };
 
 struct body {
@@ -26,7 +26,8 @@ static void show_words(const struct body *body, size_t first, size_t end)
     uint8_t page[PAGE_BYTES];
     while (first < end) {
         size_t words, bytes;
-        calmuredda_page(body->bytes, end * WORD_BYTES, body->va, body->flags, first, page, sizeof page, 0, &words, &bytes);
+        calmuredda_page(body->bytes, end * WORD_BYTES, body->va, body->flags, first, page, sizeof page, 0, &words,
+                        &bytes);
         fwrite(page, 1, bytes, stdout);
         first += words; /* never 0: the page has room for a line, and there is a word */
     }

@@ -2,8 +2,9 @@
 
        host FILE ADDRESS big|little [wide]
 
-   For each word its address, the word and its line, or `refused N`. A word that stands in a delay slot is marked, and so is
-   a word whose record has a smaller word: a patch that is encoded from the record would put that one in its place. */
+   For each word it prints the address, the word and its line, or `refused N`. A word in a delay slot is marked, and so
+   is a word for which a smaller word has the same record: a patch that is encoded from the record would put that one in
+   its place. */
 #include <inttypes.h>
 #include <stdio.h>
 #include <stdlib.h>
@@ -30,7 +31,7 @@ static uint32_t word_of(const uint8_t *bytes, int big)
     return word;
 }
 
-/* A line is bytes without a zero at their end. A word's record always has one, and there is room for any. */
+/* A line is bytes without a zero at their end. An accepted word's record always has a line, and any line fits. */
 static void show_line(const uint8_t *record)
 {
     uint8_t line[CALMUREDDA_LINE_BYTES];
@@ -63,7 +64,7 @@ static void show_refusal(struct listing *listing, uint8_t number)
     listing->in_delay_slot = 0;
 }
 
-/* Lists four bytes, or at the end of the file what is left of them: nothing is passed over. */
+/* Lists four bytes, or what is left at the end of the file: nothing is skipped. */
 static void show_bytes(struct listing *listing, const uint8_t *bytes, size_t count)
 {
     uint8_t record[CALMUREDDA_RECORD_BYTES];

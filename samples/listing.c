@@ -3,14 +3,14 @@
        listing FILE [ROOM]
 
    The listing is that of the program `sweep`; a bad file has a line as well. It goes through a window of ROOM bytes, or
-   of 4,096. From one piece to the next the host keeps the cursor alone: two numbers. */
+   of 4,096. From one piece to the next the host keeps only the cursor: two numbers. */
 #include <stdio.h>
 #include <stdlib.h>
 #include <string.h>
 
 #include "calmuredda.h"
 
-/* One byte more than a section file may have, so that a file which is too long is seen. */
+/* One byte more than a section file may have, so that a file which is too long is noticed. */
 enum { FILE_BYTES = 65536, ROOM = 4096, MOST_ROOM = 65536, MOST_DIGITS = 5, DECIMAL = 10, STATUS_USAGE = 2 };
 
 /* No sign and no other number than the window may have: what is not understood is not guessed. */
@@ -68,6 +68,6 @@ int main(int count, char **arguments)
         perror("the listing could not be written");
         return EXIT_FAILURE;
     }
-    /* That it is refused stands in the listing. */
+    /* If the file is refused, the listing says so. */
     return calmuredda_section_check(file, length) == CALMUREDDA_ACCEPTED ? EXIT_SUCCESS : EXIT_FAILURE;
 }

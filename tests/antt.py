@@ -1,8 +1,9 @@
-"""Reads the tables of the definition as they stand in crates/*/specs: for tests/definition, tests/differences and tests/manual.
+"""Reads the tables of the definition in crates/*/specs: for tests/definition, tests/differences and tests/manual.
 
-Only the text is understood here: `value_of` gives a table as lists, dictionaries (records), numbers, texts, and constructors. A
-constructor stands for itself, in front of its arguments if it has any: `read` is "read", `is 0` is ("is", 0). What the constructors
-mean is written in each of the tests. Abbreviations are followed from file to file, by the `use` lines.
+Only the text is understood here: `value_of` gives a table as lists, dictionaries (records), numbers, texts, and
+constructors. A constructor is its own name, in front of its arguments if it has any: `read` is "read", `is 0` is
+("is", 0). What the constructors mean is written in each of the tests. Abbreviations are followed from file to file, by
+the `use` lines.
 """
 import collections
 import functools

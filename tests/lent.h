@@ -1,7 +1,8 @@
 /* Memory as a call of the library is lent it, for tests/host, tests/pages and tests/threads.
 
-   What a call reads lies in memory that cannot be written, between memory that cannot be touched at all, once up to the very end
-   and once at any alignment near the start. What it writes to lies inside a pattern, all of which is compared afterwards. */
+   What a call reads is in memory that cannot be written, between memory that cannot be touched at all, once up to the
+   very end and once at any alignment near the start. What it writes to is inside a pattern, all of which is compared
+   afterwards. */
 #ifndef LENT_H
 #define LENT_H
 
@@ -32,7 +33,8 @@ static uint8_t *lent_writable;
 static const uint8_t *lent;
 static uint8_t pattern[LONGEST_AREA + PATTERNS];
 
-/* How a test calls what it asks, and how many of them it has read: to name the one at which the library touched what it must not. */
+/* How a test calls what it asks, and how many of them it has read: to name the one at which the library touched what
+   it must not. */
 static const char *asked;
 static uint64_t asked_so_far;
 
@@ -61,8 +63,8 @@ static void make_lent(void)
     need(lent_writable != MAP_FAILED && lent != MAP_FAILED, "mmap");
 }
 
-/* The bytes as the library is given them: up to the end in every second call, else near the start. For one thread: tests/threads, which
-   lends the same bytes to all its calls, does without. */
+/* The bytes as the library is given them: up to the end in every second call, else near the start. For one thread only;
+   tests/threads, which lends the same bytes to all its calls, does not use it. */
 static inline const uint8_t *lend(const uint8_t *bytes, size_t length)
 {
     size_t at = calls % 2 == 0 ? LENT_BYTES - length : calls / 2 % ALIGNMENTS;
@@ -85,7 +87,8 @@ static void make_pattern(void)
 /* The fault is in the library's code, so that nothing of stdio is half done. */
 static void on_fault(int number)
 {
-    dprintf(STDOUT_FILENO, "%s %" PRIu64 ": signal %d, memory was touched that is not lent for it\n", asked, asked_so_far, number);
+    dprintf(STDOUT_FILENO, "%s %" PRIu64 ": signal %d, memory was touched that is not lent for it\n", asked,
+            asked_so_far, number);
     _exit(EXIT_FAILURE);
 }
 

@@ -20,7 +20,8 @@ WRAPPED(uint8_t, section_flags, const uint8_t *, size_t);
 WRAPPED(uint64_t, section_address, const uint8_t *, size_t, size_t);
 WRAPPED(uint8_t, section_body, const uint8_t *, size_t, size_t, size_t *, size_t *);
 WRAPPED(uint8_t, block, const uint8_t *, size_t, uint64_t, uint8_t, size_t, uint8_t *, size_t *);
-WRAPPED(uint8_t, page, const uint8_t *, size_t, uint64_t, uint8_t, size_t, uint8_t *, size_t, size_t, size_t *, size_t *);
+WRAPPED(uint8_t, page, const uint8_t *, size_t, uint64_t, uint8_t, size_t, uint8_t *, size_t, size_t, size_t *,
+        size_t *);
 WRAPPED(uint8_t, listing, const uint8_t *, size_t, size_t, size_t, uint8_t *, size_t, size_t *, size_t *, size_t *);
 
 /* The number in the environment's MISTAKE, from 1 to the last. */

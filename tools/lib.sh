@@ -1,8 +1,9 @@
-# Shared by the outside tests, and read by samples/, bench/ and ./sweep as well. A script sets `set -eu`, reads this file, calls
-# `begin NAME`, or `begin_test` if it is one of the outside tests, and ends through exactly one of ok, failed or skipped.
+# Shared by the outside tests, and read by samples/, bench/ and ./sweep as well. A script sets `set -eu`, reads this
+# file, calls `begin NAME`, or `begin_test` if it is one of the outside tests, and ends through exactly one of ok,
+# failed or skipped.
 # shellcheck shell=sh
 
-# Exit status of a skipped test; `tests/run` tells it apart from a failure.
+# Exit status of a skipped test; `tests/run` distinguishes it from a failure.
 STATUS_SKIPPED=77
 
 # begin NAME: names the test in its verdict line.
@@ -20,8 +21,9 @@ end_without_verdict() {
     fi
 }
 
-# begin_test: the same for the outside test in the folder $here, which names it. Sets $tests and $root, and the folders for what is
-# made: $made for what several tests need, which is OUT or else target/tests, and $out in it for this test alone.
+# begin_test: the same for the outside test in the folder $here, which names it. Sets $tests and $root, and the folders
+# for what is made: $made for what several tests need, which is OUT or else target/tests, and $out in it for this test
+# alone.
 begin_test() {
     begin "${here##*/}"
     tests=$(dirname -- "$here")
@@ -55,8 +57,7 @@ skipped() {
     exit "$STATUS_SKIPPED"
 }
 
-# missing TEXT: the test cannot be run without something. Under CI every test has
-# to run, so there it is a failure.
+# missing TEXT: something is missing that the test needs. Under CI every test must run, so there it is a failure.
 missing() {
     [ "${CI:-}" != true ] || failed "$1"
     skipped "$1"
@@ -85,7 +86,8 @@ digest() {
     sha256sum | cut -d ' ' -f 1
 }
 
-# is_made_of FILE DIGEST: is the file as it was when `note_made FILE DIGEST` was called with the digest of what it is made of?
+# is_made_of FILE DIGEST: is the file as it was when `note_made FILE DIGEST` was called with the digest of what it is
+# made of?
 is_made_of() {
     [ -s "$1" ] && [ -s "$1.made_of" ] && [ "$(cat "$1.made_of")" = "$2 $(digest <"$1")" ]
 }
@@ -96,7 +98,8 @@ note_made() {
 
 # ── tools ──
 
-# The folder to lock where packages are installed: only one apt-get can run, and a tool that is there in part is not looked for.
+# The folder to lock while packages are installed: only one apt-get can run, and nobody should find a tool that is half
+# installed.
 PACKAGES=/var/lib/dpkg
 
 apt_get() {
@@ -120,7 +123,7 @@ is_there() {
     esac
 }
 
-# can_have NAME PACKAGE: is the command or file there, now that the package is installed if it was not?
+# can_have NAME PACKAGE: is the command or file there? Installs the package if it is not.
 can_have() {
     lock "$PACKAGES"
     is_there "$1" || install_package "$2" || true
@@ -153,8 +156,7 @@ check_published() {
     [ "$(digest <"$1/mips.rs")" = "$MIPS_RS_DIGEST" ] || failed "mips.rs is not the published file"
 }
 
-# build_oracle SOURCES FOLDER: the driver around the unchanged Rust decoder, of
-# tests/oracle, as FOLDER/oracle.
+# build_oracle SOURCES FOLDER: the driver of tests/oracle around the unchanged Rust decoder, as FOLDER/oracle.
 build_oracle() {
     check_published "$1"
     need_tool cc gcc
@@ -176,7 +178,7 @@ need_driver() {
     build_oracle "$tests/oracle" "$made/driver"
 }
 
-# have_rustc: can the driver be built? Where the answers are kept a test can do without; under CI need_driver is left to say what
+# have_rustc: can the driver be built? A test whose answers are kept can do without; under CI need_driver will say what
 # is missing.
 have_rustc() {
     [ "${CI:-}" = true ] || can_have rustc rustc
@@ -184,8 +186,8 @@ have_rustc() {
 
 # ── what `rt` builds ──
 
-# need_program PROGRAM: goes on if `rt` has built the program. Without it there
-# is nothing to compare; under CI `rt ci` has run before.
+# need_program PROGRAM: goes on if `rt` has built the program. Without it there is nothing to compare; under CI `rt ci`
+# has run before.
 need_program() {
     [ -x "$1" ] && return 0
     missing "target/bin/${1##*/} is missing; \`rt check ${1##*/}\` builds it"
@@ -202,8 +204,8 @@ need_x86() {
     need_tool "$X86_LOADER" libc6-amd64-cross
 }
 
-# run_x86 PROGRAM WORD..: runs a program for x86-64, on another machine in an emulator.
-# `need_x86` comes first, outside any pipe, where it can end the test.
+# run_x86 PROGRAM WORD..: runs a program for x86-64, on another machine in an emulator. `need_x86` comes first, outside
+# any pipe, where it can end the test.
 run_x86() {
     if [ "$(uname -m)" = x86_64 ]; then
         "$@"
@@ -212,14 +214,13 @@ run_x86() {
     fi
 }
 
-# library_sources ROOT: all that decides what `rt staticlib calmuredda` comes to.
+# library_sources ROOT: everything that the result of `rt staticlib calmuredda` depends on.
 library_sources() {
     (cd "$1" && rt version && find crates.txt crates -type f -exec sha256sum {} + | LC_ALL=C sort)
 }
 
-# need_archive ROOT FOLDER: the library for C, proved and built by `rt` in the
-# project ROOT, as $archive. What `rt` says stays in FOLDER. With CALMUREDDA_ARCHIVE
-# another build of the library is tested.
+# need_archive ROOT FOLDER: the library for C, proved and built by `rt` in the project ROOT, as $archive. What `rt` says
+# goes to FOLDER. With CALMUREDDA_ARCHIVE another build of the library is tested.
 need_archive() {
     archive=${CALMUREDDA_ARCHIVE:-$1/target/staticlib/libcalmuredda.a}
     [ -z "${CALMUREDDA_ARCHIVE:-}" ] || return 0
@@ -229,14 +230,14 @@ need_archive() {
     # Even where nothing has changed `rt` takes some twenty seconds.
     of=$(library_sources "$1" | digest)
     if ! is_made_of "$archive" "$of"; then
-        (cd "$1" && rt staticlib calmuredda) >"$2/staticlib.txt" 2>&1 9<&- || failed "the library is not proved; see $2/staticlib.txt"
+        (cd "$1" && rt staticlib calmuredda) >"$2/staticlib.txt" 2>&1 9<&- ||
+            failed "the library is not proved; see $2/staticlib.txt"
         note_made "$archive" "$of"
     fi
     unlock
 }
 
-# need_x86_cc: a C compiler and linker for x86-64, the machine of the library, as
-# $x86_cc.
+# need_x86_cc: a C compiler and linker for x86-64, the machine of the library, as $x86_cc.
 need_x86_cc() {
     x86_cc=cc
     if [ "$(uname -m)" = x86_64 ]; then

@@ -1,19 +1,21 @@
 #!/usr/bin/env python3
-"""Hold the definition against the Rust: read the table of classes and the acceptance table as they stand in
-crates/classes/specs, read words by them, and compare every part of every reading with the sampled answers of the Rust.
+"""Compare the definition with the Rust: take the table of classes and the acceptance table from crates/classes/specs,
+read words by them, and compare every byte of every record with the kept answers of the Rust, tests/vectors/answers.txt.
 
-    check.py REPOSITORY < ANSWERS
+    check.py REPOSITORY
 
-ANSWERS are lines of tests/vectors/README.md's format. antt.py reads the tables; what their words mean (`Meaning.antt`,
-`Numbers.antt`) is written here a second time, from document 01. The mnemonic kinds of the code are compared with those of the specs too.
+antt.py reads the tables; what their words mean (`Meaning.antt`, `Numbers.antt`) is written here a second time, from
+document 01.
 """
-import re
 import sys
 from pathlib import Path
 
-sys.path.append(str(Path(__file__).resolve().parents[1]))
+TESTS = Path(__file__).resolve().parents[1]
+sys.path += [str(TESTS), str(TESTS / "model")]
 
-from antt import FIELDS, demand, fields_of, kinds_of, mnemonic, parts, rows_of, text_of, value_of  # noqa: E402
+import vectors  # noqa: E402
+from antt import FIELDS, fields_of, mnemonic, parts, rows_of, value_of  # noqa: E402
+from record import HAS_TARGET, MARK, Operand, Record  # noqa: E402
 
 OPS = 64
 MASK64 = 2**64 - 1
@@ -21,16 +23,6 @@ KINDS = {"Reg": 1, "FReg": 2, "Imm": 3, "Mem": 4, "Addr": 5, "Cop0": 6}
 FLOWS = {"plain": 0, "call": 1, "jump": 2, "branch": 3, "return": 4, "interrupt": 5}
 MARKED = ("call", "jump", "branch", "byRegister")
 RET, JUMP, RA = 4, 2, 31
-
-
-def count_kinds(repository):
-    """How many mnemonic kinds there are, if the constants of the code have the numbers of the specs."""
-    code = re.findall(r"^pub const (\w+): u8 = (\d+);$", text_of(repository, "crates/reading/src/kind.rt"), re.M)
-    specs = [(name.replace("-", "_").upper(), number) for name, number in kinds_of(repository)]
-    many = ("MANY", str(len(specs)))
-    same = code == specs + [many]
-    demand(same, "kinds", "one has one number in reading/src/kind.rt and another in reading/specs/Kind.antt")
-    return len(specs)
 
 
 # ── the two tables ──
@@ -120,25 +112,32 @@ def effect(change, os):
     return 3, first, registers[1], size[0], values[1]
 
 
-def answer(tables, refusals, wide, va, word):
-    """The line that the Rust should give, and how many rows take the word."""
-    f = fields_of(word)
-    rows = [row for row in tables[wide][f["op"]] if takes(row, word, f)]
-    question = f"{wide:d} {va:016x} {word:08x} {refusal(refusals, f)}"
-    if not rows:
-        return f"{question} 0 0 0 {0:016x} 0 00 00 0 {0:016x} 0" + f" 0 00 {0:016x}" * 4 + " -", 0
-    row = rows[0]
+def reading(row, va, word, f):
+    """The record of a word that the row takes."""
     os = operands(row["form"], va, word, f)
     control, change = row["manner"]["control"], row["manner"]["change"]
-    flow = FLOWS.get(control, RET if os and os[0][1] == RA else JUMP)
-    target = next((o[2] for o in os if o[0] == "Addr"), None)
-    e = effect(change, os)
-    line = f"{question} {flow} {control in MARKED:d} {target is not None:d} {target or 0:016x}"
-    line += f" {e[0]} {e[1]:02x} {e[2]:02x} {e[3]} {e[4] & MASK64:016x} {len(os)}"
-    for kind, register, value in os:
-        line += f" {KINDS[kind]} {register:02x} {value & MASK64:016x}"
-    line += f" 0 00 {0:016x}" * (4 - len(os))
-    return f"{line} {mnemonic(row['kind'])}", len(rows)
+    target = next((value for kind, _, value in os if kind == "Addr"), None)
+    *parts_of_effect, value = effect(change, os)
+    return Record(
+        mnemonic(row["kind"]).encode(),
+        flow=FLOWS.get(control, RET if os and os[0][1] == RA else JUMP),
+        marks=MARK * (control in MARKED) + HAS_TARGET * (target is not None),
+        count=len(os),
+        target=target or 0,
+        effect=(*parts_of_effect, value & MASK64),
+        operands=[Operand(KINDS[kind], register, value & MASK64) for kind, register, value in os],
+    )
+
+
+def answer(tables, refusals, question):
+    """The record that the Rust's answer should have, and in how many places of the two tables the word is: one."""
+    f = fields_of(question.word)
+    rows = [row for row in tables[question.wide][f["op"]] if takes(row, question.word, f)]
+    number = refusal(refusals, f)
+    places = len(rows) + (number > 0)
+    if number or not rows:
+        return Record(b"", number).packed(), places
+    return reading(rows[0], question.address, question.word, f).packed(), places
 
 
 def main():
@@ -146,17 +145,17 @@ def main():
     classes = [rows_of(repository, wide) for wide in (False, True)]
     tables = [rows_by_op(rows) for rows in classes]
     refusals = value_of(repository, "classes/specs/Refusals.antt", "refusals")
-    kinds = count_kinds(repository)
     compared = 0
-    for line in sys.stdin:
-        line = line.rstrip("\n")
-        wide, va, word = line.split()[:3]
-        ours, rows = answer(tables, refusals, wide == "1", int(va, 16), int(word, 16))
-        if ours != line or rows > 1:
-            sys.exit(f"the Rust:       {line}\nthe definition: {ours} ({rows} rows)")
+    for kept in vectors.answers(Path(repository)):
+        ours, places = answer(tables, refusals, kept.question)
+        if ours != kept.record or places != 1:
+            theirs = f"{kept.question}\nthe Rust:       {kept.record.hex()}"
+            sys.exit(f"{theirs}\nthe definition: {ours.hex()} (in {places} places of the tables)")
         compared += 1
     without, having = map(len, classes)
-    print(f"{compared} answers, {without} classes without the flag, {having} with it, {len(refusals)} entries of refusals, {kinds} kinds")
+    print(
+        f"{compared} answers, {without} classes without the flag, {having} with it, {len(refusals)} entries of refusals"
+    )
 
 
 main()

@@ -1,11 +1,12 @@
 #!/usr/bin/env python3
-"""Compare the named differences between the manuals and the Rust, as they stand in crates/manual/specs, with docs/DIFFERENCES.md,
-with docs/PATCHING.md and with the Rust: the example of each, and words drawn at random from those that it covers.
+"""Compare the named differences between the manuals and the Rust, as crates/manual/specs has them, with
+docs/DIFFERENCES.md, with docs/PATCHING.md and with the Rust: the example of each, and words drawn at random from those
+that it covers.
 
     check.py REPOSITORY ORACLE
 
-ORACLE is the driver of tests/oracle. antt.py reads the specs, with their own abbreviations and relations; what a test, a claim and
-a page's drawing mean is written here a second time.
+ORACLE is the driver of tests/oracle. antt.py reads the specs, with their own abbreviations and relations; what a test,
+a claim and a page's drawing mean is written here a second time.
 """
 import collections
 import itertools
@@ -18,7 +19,22 @@ from pathlib import Path
 
 sys.path.append(str(Path(__file__).resolve().parents[1]))
 
-from antt import FIELDS, constructors_of, demand, evaluate, fields_of, kinds_of, mnemonic, parsed, rows_of, text_of, value_of  # noqa: E402
+from antt import (  # noqa: E402
+    FIELDS,
+    constructors_of,
+    demand,
+    evaluate,
+    fields_of,
+    kinds_of,
+    mnemonic,
+    parsed,
+    rows_of,
+    text_of,
+    value_of,
+)
+
+DOCUMENT = "docs/DIFFERENCES.md"
+PATCHING = "docs/PATCHING.md"
 
 # How many values each field can have.
 ROOM = {x: 2**width for x, (_, width) in FIELDS.items()}
@@ -27,23 +43,23 @@ ROOM = {x: 2**width for x, (_, width) in FIELDS.items()}
 FLAGS = {"either": (False, True), "on": (True,), "off": (False,)}
 BOOKS = {"MIPS32": (False, True), "MIPS64": (True,)}
 
-# An entry that is lost from the specs and from the document at once would else go unnoticed.
+# Otherwise an entry that is lost both from the specs and from the document would go unnoticed.
 ENTRIES = 75
-# The lists of the specs, in the order of the document's tables; no page defines the words of the last.
+# The lists of the specs, in the order of the document's lists; no page defines the words of the last.
 LISTS = ("refusedWords", "otherReadings", "reservedWords")
 # The entry whose mnemonics have neither a page nor an alias.
 WITHOUT_PAGE = "reserved-format"
-# The one that depends on the address, its number and the example that crates/manual/specs/Tight.antt has.
+# The entry that depends on the address, and the example that crates/manual/specs/Tight.antt has for it.
 PAST_PC = "target-past-pc"
 PAST_WORD, PAST_ADDRESS = 0x04000000, 0xFFFFFFFC
 # The entry of the last list whose words are other instructions of a manual.
 WITHOUT_FLAG = "mips64-without-flag"
 
-# For each entry and flag, so many words, if as many come up in so many draws: a small entry is drawn to its last word.
+# This many words for each entry and flag, if this many draws bring up as many: of a small entry every word is drawn.
 WORDS_EACH = 400
 DRAWS = 4000
 SEED = 75
-# A field that may have at most so many values is tried with each of them, in corners.
+# A field that may have at most this many values is tried with each of them, in corners.
 FEW = 16
 
 
@@ -59,7 +75,7 @@ def word_of(fields):
 
 
 class Relations:
-    """How two fields can stand to each other, as crates/manual/specs/Page.antt says it."""
+    """How two fields can be related, as crates/manual/specs/Page.antt says it."""
 
     def __init__(self, repository):
         text = text_of(repository, "crates/manual/specs/Page.antt")
@@ -69,7 +85,8 @@ class Relations:
         return {x for x in FIELDS if re.search(rf"\bf {x}\b", self.bodies[name])}
 
     def holds(self, name, fields):
-        return evaluate(parsed(self.bodies[name]), {}, {"f": fields.get, "eqb": operator.eq, "leb": operator.le})
+        local = {"f": fields.get, "eqb": operator.eq, "leb": operator.le}
+        return evaluate(parsed(self.bodies[name]), {}, local)
 
 
 class Words:
@@ -94,10 +111,11 @@ class Words:
         return all(relations.holds(relation, fields) == (claim == "holds") for claim, relation in claims)
 
     def has(self, fields):
-        return all(fields[x] in self.values[x] for x in FIELDS) and tuple(fields[x] for x in self.tied) in self.tuples
+        allowed = all(fields[x] in self.values[x] for x in FIELDS)
+        return allowed and tuple(fields[x] for x in self.tied) in self.tuples
 
     def smallest(self):
-        """Fields stand in the order of their weight, so each may be taken alone, but for those of the claims."""
+        """Each field can be made least by itself, except those that a claim ties together."""
         least = {x: min(self.allowed[x]) for x in FIELDS}
         return min(word_of({**least, **dict(zip(self.tied, values))}) for values in self.together)
 
@@ -107,14 +125,16 @@ class Words:
         return word_of(fields)
 
     def corners(self):
-        """Words with first and last values, or all where they are few: chance could miss a function, or a register zero."""
+        """Words with the first and last value of each field, or with every value where they are few: random words could
+        miss a function, or register zero."""
         ends = [vs if len(vs) <= FEW else (vs[0], vs[-1]) for vs in self.allowed.values()]
         for values, tied in itertools.product(itertools.product(*ends), (self.together[0], self.together[-1])):
             yield word_of({**dict(zip(FIELDS, values)), **dict(zip(self.tied, tied))})
 
 
 class Places:
-    """Sets of words under names, and which of them have a word. They are found by op and funct, since there are many questions."""
+    """Named sets of words, and which of them have a word. They are found by op and funct, since there are many
+    questions."""
 
     def __init__(self, named_sets):
         self.places = collections.defaultdict(list)
@@ -145,9 +165,10 @@ class Entry:
         self.demand(not any(words.empty for words in self.sets), "one of its sets has no words")
         answer, content = difference["answer"]
         self.refusal = f"refused {content}" if answer == "refused" else None
-        # The field that is left out of what the page has, if that is all.
+        # The field that is left out of what the page has, if nothing else differs.
         self.dropped = content if answer == "drops" else None
-        self.mnemonics = {mnemonic(kind) for sort in content for kind in sort["kinds"]} if answer == "reads" else set()
+        sorts = content if answer == "reads" else []
+        self.mnemonics = {mnemonic(kind) for sort in sorts for kind in sort["kinds"]}
 
     def demand(self, holds, message):
         demand(holds, self.name, message)
@@ -156,7 +177,7 @@ class Entry:
         return [words for words in self.sets if wide in words.flags]
 
     def fits(self, answer, page):
-        """Whether the answer is what the entry says of a word, which is on that page or on none."""
+        """Is the answer what the entry says about a word, which is on that page or on none?"""
         allowed = {page} if self.dropped else self.mnemonics
         return answer == self.refusal if self.refusal else answer.split(" ")[0] in allowed
 
@@ -170,7 +191,8 @@ def entries_of(repository):
     relations = Relations(repository)
     lists = {name: value_of(repository, path, name) for name in LISTS}
     together = list(itertools.chain(*lists.values()))
-    demand(value_of(repository, path, "differences") == together, "differences", f"not the lists {', '.join(LISTS)}")
+    differences = value_of(repository, path, "differences")
+    demand(differences == together, "differences", f"not the lists {', '.join(LISTS)}")
     return [Entry(name, difference, relations) for name, differences in lists.items() for difference in differences]
 
 
@@ -187,66 +209,88 @@ def check_constructors(repository, entries):
 def check_smallest(entry):
     covered = [words.smallest() for words in entry.under(entry.wide)]
     entry.demand(covered, f"{shown(entry.word, entry.wide)} is its example, but it has no words under that flag")
-    entry.demand(min(covered) == entry.word, f"its example is 0x{entry.word:08x}, its smallest {shown(min(covered), entry.wide)}")
+    least = shown(min(covered), entry.wide)
+    entry.demand(min(covered) == entry.word, f"its example is 0x{entry.word:08x}, its smallest {least}")
 
 
 # ── the document ──
 
-Row = collections.namedtuple("Row", "number name word flag manual rust we words")
-ROW = re.compile(r"\| D(\d+) \| `([\w-]+)` \| `0x([0-9a-f]{8})`(?:, flag (on|off))?" + r" \| ([^|]*)" * 4 + r" \|")
-# The row of the difference that depends on the address.
-PAST_ROW = re.compile(r"\| D(\d+) \| `([\w-]+)` \| `0x([0-9a-f]{8})` at `0x([0-9a-f]+)`, flag off" + r" \| ([^|]*)" * 4 + r" \|")
-# A row of the two tables of what comes back, in docs/PATCHING.md: of differences, and of words on which the manual agrees.
+# An entry of the document. Only the one that depends on the address shows an address.
+Item = collections.namedtuple("Item", "number name words word address flag manual rust here")
+# Its lines, from its name on, with those that are indented.
+ITEM_LINES = re.compile(r"^- \*\*D.*(?:\n  .*)*", re.M)
+# The same with each point on one line: the words that it covers, the smallest of them, the answer to all of them.
+ITEM = re.compile(
+    r"- \*\*D(\d+) `([\w-]+)`\*\*: (.+)\n"
+    r"- smallest word: `0x([0-9a-f]{8})`(?: at `0x([0-9a-f]+)`)?(?:, flag (on|off))?; manual: (.+); Rust: (.+)\n"
+    r"- here: (.+)"
+)
+# A row of docs/PATCHING.md's two tables of what comes back: of differences, and of words on which the manual agrees.
 BACK_ROW = re.compile(r"\| D(\d+) \| ([^|]*) \| ([^|]*) \| [^|]* \|")
+SAME = "the same"
 SWAP_ROW = re.compile(
-    r"\| `([\w-]+)` \| `([\w.]+)` \| `([\w.]+)` \| (all|below 0x8000) \| `0x([0-9a-f]{8})`(?:, flag (on))? \| `0x([0-9a-f]{8})` \| [^|]* \|"
+    r"\| `([\w-]+)` \| `([\w.]+)` \| `([\w.]+)` \| (all|below 0x8000)"
+    r" \| `0x([0-9a-f]{8})`(?:, flag (on))? \| `0x([0-9a-f]{8})` \| [^|]* \|"
 )
 
 
-def tables_of(repository):
-    """The rows of each table of differences."""
-    tables = []
-    for line in text_of(repository, "docs/DIFFERENCES.md").splitlines():
-        if line.startswith("#"):
-            tables.append([])
-        if line.startswith("| D") and not PAST_ROW.fullmatch(line):
-            found = ROW.fullmatch(line)
-            demand(found, "docs/DIFFERENCES.md", f"a row that cannot be read: {line}")
-            tables[-1].append(Row(*found.groups()))
-    return [rows for rows in tables if rows]
+def item_of(lines):
+    joined = re.sub(r"\n +(?! |- )", " ", lines)
+    found = ITEM.fullmatch(re.sub(r"\n +", "\n", joined))
+    demand(found, DOCUMENT, f"an entry that cannot be read: {lines}")
+    return Item(*found.groups())
 
 
-def check_tables(entries, tables):
-    demand(len(tables) == len(LISTS), "docs/DIFFERENCES.md", f"{len(tables)} tables of differences, not {len(LISTS)}")
-    for title, rows in zip(LISTS, tables):
+def items_of(repository):
+    """The entries below each heading that has any."""
+    text = text_of(repository, DOCUMENT)
+    sections = re.split(r"^#.*$", text, flags=re.M)
+    items = [[item_of(lines) for lines in ITEM_LINES.findall(section)] for section in sections]
+    named = len(re.findall(r"\*\*D\d", text))
+    many = sum(map(len, items))
+    demand(named == many, DOCUMENT, f"{named} numbers of differences in bold, but {many} entries")
+    return [below for below in items if below]
+
+
+def apart(items):
+    """The lists of entries without those that depend on the address, and these."""
+    lists = [[item for item in below if not item.address] for below in items]
+    return [below for below in lists if below], [item for item in itertools.chain(*items) if item.address]
+
+
+def check_lists(entries, lists):
+    demand(len(lists) == len(LISTS), DOCUMENT, f"{len(lists)} lists of differences, not {len(LISTS)}")
+    for title, items in zip(LISTS, lists):
         names = [entry.name for entry in entries if entry.list == title]
-        for ours, theirs in itertools.zip_longest(names, (row.name for row in rows), fillvalue="nothing"):
-            demand(ours == theirs, title, f"{ours} stands where docs/DIFFERENCES.md has {theirs}")
+        for ours, theirs in itertools.zip_longest(names, (item.name for item in items), fillvalue="nothing"):
+            demand(ours == theirs, title, f"{ours} in the specs, {theirs} in {DOCUMENT}")
 
 
-def check_row(number, entry, row, pages):
-    entry.demand(int(row.number) == number, f"D{row.number} in docs/DIFFERENCES.md, not D{number}")
+def check_item(number, entry, item, pages):
+    entry.demand(int(item.number) == number, f"D{item.number} in {DOCUMENT}, not D{number}")
     example = shown(entry.word, entry.wide)
-    theirs = shown(int(row.word, 16), row.flag == "on")
-    entry.demand(theirs == example, f"{theirs} in docs/DIFFERENCES.md, not {example}")
-    entry.demand(row.we == entry.refusal or not entry.refusal, f"{example}: `we` has {row.we}, not {entry.refusal}")
+    theirs = shown(int(item.word, 16), item.flag == "on")
+    entry.demand(theirs == example, f"{theirs} in {DOCUMENT}, not {example}")
+    entry.demand(item.here == entry.refusal or not entry.refusal, f"`here` has {item.here}, not {entry.refusal}")
     # In the last list no page has the word, as check_answers finds.
     if entry.list != LISTS[-1]:
-        page = re.sub(r"^`([\w.]+).*", r"\1", row.manual)
+        page = re.sub(r"^`([\w.]+).*", r"\1", item.manual)
         entry.demand(pages.names(entry.word, entry.wide)[:1] == [page], f"{example} is not on the page {page}")
 
 
-def check_past(repository, oracle):
-    """The row of the difference that depends on the address: it has its number, its example and the Rust's answer."""
-    rows = [found.groups() for found in map(PAST_ROW.fullmatch, text_of(repository, "docs/DIFFERENCES.md").splitlines()) if found]
-    demand(len(rows) == 1, PAST_PC, f"{len(rows)} rows in docs/DIFFERENCES.md")
-    number, name, word, address, _, rust, _, _ = rows[0]
-    demand((int(number), name) == (ENTRIES + 1, PAST_PC), PAST_PC, f"D{number} `{name}` in docs/DIFFERENCES.md")
-    demand((int(word, 16), int(address, 16)) == (PAST_WORD, PAST_ADDRESS), PAST_PC, f"0x{word} at 0x{address} in docs/DIFFERENCES.md")
-    example = f"{PAST_PC} 0x{PAST_WORD:08x} 0x{PAST_ADDRESS:08x} false"
-    demand(example in text_of(repository, "crates/manual/specs/Tight.antt"), PAST_PC, f"`{example}` is not in specs/Tight.antt")
+def check_past(repository, oracle, items):
+    """The entry that depends on the address has its number, its example and the Rust's answer."""
+    demand(len(items) == 1, PAST_PC, f"{len(items)} entries with an address in {DOCUMENT}")
+    (item,) = items
+    demand((int(item.number), item.name) == (ENTRIES + 1, PAST_PC), PAST_PC, f"D{item.number} `{item.name}`")
+    example = (int(item.word, 16), int(item.address, 16), item.flag)
+    theirs = f"0x{item.word} at 0x{item.address}, flag {item.flag}"
+    demand(example == (PAST_WORD, PAST_ADDRESS, "off"), PAST_PC, f"{theirs} in {DOCUMENT}")
+    specs = f"{PAST_PC} 0x{PAST_WORD:08x} 0x{PAST_ADDRESS:08x} false"
+    tight = "crates/manual/specs/Tight.antt"
+    demand(specs in text_of(repository, tight), PAST_PC, f"`{specs}` is not in {tight}")
     (answer,) = answers_of(oracle, [(PAST_WORD, False)], PAST_ADDRESS)
-    demand(rust == f"`{answer}`", PAST_PC, f"the Rust answers {answer}, docs/DIFFERENCES.md has {rust}")
+    demand(item.rust == f"`{answer}`", PAST_PC, f"the Rust answers {answer}, {DOCUMENT} has {item.rust}")
 
 
 # ── the Rust ──
@@ -264,7 +308,7 @@ def words_of(entry, wide, source):
 
 
 def asked_of(oracle, mode, questions, address=0):
-    """The driver's lines for each word with its flag."""
+    """The driver's lines, for each word with its flag."""
     lines = "".join(f"{wide:d} {address:x} {word:08x}\n" for word, wide in questions)
     run = subprocess.run([oracle, mode], input=lines, stdout=subprocess.PIPE, text=True, check=True)
     return run.stdout.splitlines()
@@ -273,33 +317,37 @@ def asked_of(oracle, mode, questions, address=0):
 def answers_of(oracle, questions, address=0):
     """The listing line, or `refused` with its number, for each word with its flag."""
     answers = [line.split(" ", 2) for line in asked_of(oracle, "text", questions, address)]
-    demand([int(word, 16) for _, word, _ in answers] == [word for word, _ in questions], "oracle", "answers other words")
+    answered = [int(word, 16) for _, word, _ in answers]
+    demand(answered == [word for word, _ in questions], "oracle", "it answers other words")
     return [answer for _, _, answer in answers]
 
 
 def objection(entry, word, wide, answer, covering, pages):
-    """What is wrong about a word of an entry, if anything: it is covered twice, has a page or none, or is answered otherwise."""
+    """What is wrong about a word of an entry, if anything: it is not covered once, it has a page where it should not or
+    none where it should, or it is answered otherwise."""
     covered = covering.names(word, wide)
     if covered != [entry.name]:
         return f"covered by {', '.join(covered) or 'no entry'}"
-    # With the flag off MIPS32 has no page for some words of the middle list, which are there for their pages of MIPS64.
+    # With the flag off, MIPS32 has no page for some words of the middle list; they are there for their pages of MIPS64.
     on = pages.names(word, wide or entry.list == LISTS[1])
     if bool(on) != (entry.list != LISTS[-1]):
         return f"on {'the page ' + on[0] if on else 'no page'}, but in {entry.list}"
-    return None if entry.fits(answer, on[0] if on else None) else f"the Rust answers {answer}, the entry says {entry.said()}"
+    fits = entry.fits(answer, on[0] if on else None)
+    return None if fits else f"the Rust answers {answer}, the entry says {entry.said()}"
 
 
-def check_answers(oracle, entries, rows, covering, pages):
-    """How many words were compared beside the examples."""
+def check_answers(oracle, entries, items, covering, pages):
+    """How many words were compared besides the examples."""
     source = random.Random(SEED)
     asked = [(entry, entry.word, entry.wide) for entry in entries]
     for entry, wide in itertools.product(entries, (False, True)):
         asked += [(entry, word, wide) for word in words_of(entry, wide, source)]
     answers = answers_of(oracle, [(word, wide) for _, word, wide in asked])
     # The examples come first.
-    for row, (entry, word, wide), answer in zip(rows, asked, answers):
-        column = answer if answer.startswith("refused ") else f"`{answer}`"
-        entry.demand(row.rust == column, f"{shown(word, wide)}: the Rust answers {column}, docs/DIFFERENCES.md has {row.rust}")
+    for item, (entry, word, wide), answer in zip(items, asked, answers):
+        ours = answer if answer.startswith("refused ") else f"`{answer}`"
+        message = f"{shown(word, wide)}: the Rust answers {ours}, {DOCUMENT} has {item.rust}"
+        entry.demand(item.rust == ours, message)
     for (entry, word, wide), answer in zip(asked, answers):
         found = objection(entry, word, wide, answer, covering, pages)
         if found:
@@ -313,13 +361,14 @@ def check_answers(oracle, entries, rows, covering, pages):
 def backs_of(oracle, questions):
     """The smallest word that the Rust reads alike, for each accepted word with its flag."""
     lines = [line.split(" ") for line in asked_of(oracle, "back", questions)]
-    demand([int(word, 16) for _, _, word, _ in lines] == [word for word, _ in questions], "oracle", "words come back for others")
+    answered = [int(word, 16) for _, _, word, _ in lines]
+    demand(answered == [word for word, _ in questions], "oracle", "it answers other words")
     return [int(back, 16) for _, _, _, back in lines]
 
 
 def moved_pages(oracle, entry, pages, source):
-    """The pages of the entry's words that do not come back as themselves, and the pages of what comes back. For an entry whose
-    words no page of the flag's manual defines, MIPS64's pages count."""
+    """The pages of the entry's words that do not come back as themselves, and the pages of what comes back. For an
+    entry whose words no page of the flag's manual defines, MIPS64's pages count."""
     asked = [(word, wide) for wide in (False, True) for word in words_of(entry, wide, source)]
     before, after = set(), set()
     for (word, _), back in zip(asked, backs_of(oracle, asked)):
@@ -329,36 +378,44 @@ def moved_pages(oracle, entry, pages, source):
     return before, after
 
 
+def back_rows(text):
+    """The rows of docs/PATCHING.md's table of differences, by number: what goes in, and what comes back."""
+    rows = (found.groups() for found in map(BACK_ROW.fullmatch, text.splitlines()) if found)
+    return {int(number): [before, before if after == SAME else after] for number, before, after in rows}
+
+
 def check_backs(repository, oracle, entries, pages):
-    """docs/PATCHING.md lists the differences whose words come back as other instructions of a manual or without a field."""
-    text = text_of(repository, "docs/PATCHING.md")
-    listed = {int(found[1]): found.groups()[1:] for found in map(BACK_ROW.fullmatch, text.splitlines()) if found}
+    """docs/PATCHING.md lists the differences whose words come back as another instruction of a manual or without a
+    field."""
+    listed = back_rows(text_of(repository, PATCHING))
     source = random.Random(SEED)
     for number, entry in enumerate(entries, 1):
         if entry.list != LISTS[1] and entry.name != WITHOUT_FLAG:
-            entry.demand(number not in listed, "docs/PATCHING.md has a row for it")
+            entry.demand(number not in listed, f"{PATCHING} has a row for it")
             continue
         moved = moved_pages(oracle, entry, pages, source)
         ours = [", ".join(f"`{name}`" for name in sorted(names)) for names in moved]
-        theirs = list(listed.get(number, ("", "")))
-        entry.demand(ours == theirs, f"{ours[0] or 'no page'} comes back as {ours[1] or 'no other'}, docs/PATCHING.md has {theirs}")
+        theirs = listed.get(number, ["", ""])
+        back = f"{ours[0] or 'no page'} comes back as {ours[1] or 'no other'}"
+        entry.demand(ours == theirs, f"{back}, {PATCHING} has {theirs}")
     return len(listed)
 
 
 def check_swaps(repository, oracle, pages):
     """docs/PATCHING.md lists the swaps of the specs: words on which the manual agrees, and that come back as others."""
-    text = text_of(repository, "docs/PATCHING.md")
+    text = text_of(repository, PATCHING)
     listed = [found.groups() for found in map(SWAP_ROW.fullmatch, text.splitlines()) if found]
     swaps = value_of(repository, "manual/specs/Patching.antt", "swaps")
     for swap, row in itertools.zip_longest(swaps, listed):
-        demand(swap and row, "swaps", f"{len(swaps)} in the specs, {len(listed)} in docs/PATCHING.md")
+        demand(swap and row, "swaps", f"{len(swaps)} in the specs, {len(listed)} in {PATCHING}")
         word, wide = swap["example"]["word"], swap["example"]["wide"] == "true"
         back = word_of({**fields_of(word), **dict(swap["back"])})
         names = (swap["swapped"], swap["page"], swap["read-as"], swap["range"].replace("-", " ", 1))
         ours = (*names, f"{word:08x}", "on" if wide else None, f"{back:08x}")
-        demand(ours == row, swap["swapped"], f"{row} in docs/PATCHING.md, {ours} in the specs")
+        demand(ours == row, swap["swapped"], f"{row} in {PATCHING}, {ours} in the specs")
         demand(pages.names(word, wide)[:1] == [swap["page"]], swap["swapped"], f"0x{word:08x} is not on its page")
-        demand(backs_of(oracle, [(word, wide)]) == [back], swap["swapped"], f"0x{word:08x} does not come back as 0x{back:08x}")
+        comes_back = backs_of(oracle, [(word, wide)]) == [back]
+        demand(comes_back, swap["swapped"], f"0x{word:08x} does not come back as 0x{back:08x}")
     return len(swaps)
 
 
@@ -387,9 +444,9 @@ def pages_of(repository):
     return found
 
 
-def tells(row, page):
-    """Whether every part of the page's name is in the row; its `compares` stand for the names that begin with `c.`."""
-    words = set(re.findall(r"\w+", f"{row.manual} {row.words}"))
+def tells(item, page):
+    """Is every part of the page's name in the entry? Its `compares` stand for the names that begin with `c.`."""
+    words = set(re.findall(r"\w+", f"{item.manual} {item.words}"))
     parts = page.split(".")
     if parts[0] == "c" and "compares" in words:
         parts = parts[2:]
@@ -397,18 +454,19 @@ def tells(row, page):
 
 
 def check_pages(pages, rows, documented, covering):
-    """A page without a row is a difference of the first two tables, and named there."""
+    """A page without a row is a difference of the first two lists, and named there."""
     for page, words in pages:
         if page in rows:
             continue
         word, wide = words.smallest(), words.flags[0]
         found = covering.names(word, wide)
-        demand(found and found[0] in documented, page, f"a page without a row, {shown(word, wide)}, but no difference")
-        demand(tells(documented[found[0]], page), found[0], f"docs/DIFFERENCES.md does not name {page}, {shown(word, wide)}")
+        example = shown(word, wide)
+        demand(found and found[0] in documented, page, f"a page without a row, {example}, but not a difference")
+        demand(tells(documented[found[0]], page), found[0], f"{DOCUMENT} does not name {page}, {example}")
 
 
 def check_rows(repository, pages, rows, entries):
-    """A row has a page or is an alias, but for the reserved formats."""
+    """A row has a page or is an alias, except in the reserved formats."""
     aliases = {alias["alias"] for alias in value_of(repository, "manual/specs/Aliases.antt", "aliases")}
     without = rows - aliases - {page for page, _ in pages}
     said = set().union(*(entry.mnemonics for entry in entries if entry.name == WITHOUT_PAGE))
@@ -417,43 +475,44 @@ def check_rows(repository, pages, rows, entries):
 
 
 def check_names(repository, entries):
-    """How many mnemonics there are, if the names stand in the order of the kinds."""
+    """How many mnemonics there are, if the names are in the order of the kinds."""
     kinds = kinds_of(repository)
     expected = [mnemonic(name) for name, _ in kinds]
     for place, (name, number) in enumerate(kinds):
         demand(int(number) == place, name, f"kind {number}, not {place}")
     names = value_of(repository, "reading/specs/Names.antt", "mnemonics")
     for place, (ours, theirs) in enumerate(itertools.zip_longest(names, expected)):
-        demand(ours == theirs, "mnemonics", f"{ours} has the place of kind {place}, {theirs}")
+        demand(ours == theirs, "mnemonics", f"{ours} is in the place of kind {place}, {theirs}")
     for entry in entries:
         unknown = entry.mnemonics - set(names)
-        demand(not unknown, entry.name, f"no mnemonic: {', '.join(sorted(unknown))}")
+        demand(not unknown, entry.name, f"not mnemonics: {', '.join(sorted(unknown))}")
     return len(names)
 
 
 def main():
     repository, oracle = sys.argv[1:]
-    entries, pages, tables = entries_of(repository), pages_of(repository), tables_of(repository)
+    entries, pages = entries_of(repository), pages_of(repository)
+    lists, past = apart(items_of(repository))
     covering = Places((entry.name, words) for entry in entries for words in entry.sets)
     drawings = Places(pages)
     check_constructors(repository, entries)
-    check_tables(entries, tables)
-    documented = list(itertools.chain(*tables))
-    for number, (entry, row) in enumerate(zip(entries, documented), 1):
+    check_lists(entries, lists)
+    documented = list(itertools.chain(*lists))
+    for number, (entry, item) in enumerate(zip(entries, documented), 1):
         check_smallest(entry)
-        check_row(number, entry, row, drawings)
+        check_item(number, entry, item, drawings)
     # The mnemonics that have a row in the table of classes.
     rows = {mnemonic(row["kind"]) for wide in (False, True) for row in rows_of(repository, wide)}
-    check_pages(pages, rows, {row.name: row for row in itertools.chain(*tables[:-1])}, covering)
+    check_pages(pages, rows, {item.name: item for item in itertools.chain(*lists[:-1])}, covering)
     check_rows(repository, pages, rows, entries)
     names = check_names(repository, entries)
-    check_past(repository, oracle)
+    check_past(repository, oracle, past)
     backs = check_backs(repository, oracle, entries, drawings)
     swaps = check_swaps(repository, oracle, drawings)
     words = check_answers(oracle, entries, documented, covering, drawings)
     print(
-        f"{len(entries)} entries with their smallest words and one at its address, {words} more words, {len(pages)} pages, "
-        f"{names} mnemonics; {backs} entries and {swaps} pages whose words come back otherwise"
+        f"{len(entries)} entries with their smallest words and one at its address, {words} more words, "
+        f"{len(pages)} pages, {names} mnemonics; {backs} entries and {swaps} pages whose words come back otherwise"
     )
 
 

@@ -1,10 +1,11 @@
-# Shared by tests/differential and tests/exhaustive: Rust programs for x86-64, the machine of the library, linked with it.
-# Read after tools/lib.sh.
+# Shared by tests/differential and tests/exhaustive: Rust programs for x86-64, the machine of the library, linked with
+# it. Read after tools/lib.sh.
 # shellcheck shell=sh
 
 X86_TARGET=x86_64-unknown-linux-gnu
 
-# x86_rust WORD..: $x86_rustc, always for x86-64, so that the library is never linked into a program for another machine.
+# x86_rust WORD..: $x86_rustc, always for x86-64, so that the library is never linked into a program for another
+# machine.
 x86_rust() {
     # shellcheck disable=SC2086
     "$x86_rustc" $RUST_FLAGS --target "$X86_TARGET" -C linker="$x86_cc" "$@"
@@ -40,7 +41,7 @@ need_x86_rust() {
         unlock
         builds_x86 "$1" && return 0
     fi
-    missing "no rustc that builds for x86-64 can be had (on other machines Debian's does, with libstd-rust-dev:amd64); see $1/empty.txt"
+    missing "no rustc that builds for x86-64 can be had (Debian's with libstd-rust-dev:amd64 does); see $1/empty.txt"
 }
 
 # build_linked SOURCE PROGRAM: builds the program around the unchanged Rust and links it with $archive.

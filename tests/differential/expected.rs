@@ -1,4 +1,4 @@
-//! Answers of the library held against what the unchanged Rust says.
+//! What the unchanged Rust says, for comparing answers of the library with it.
 
 use crate::answer::Ask;
 use crate::record::{record_of, Record};

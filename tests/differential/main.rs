@@ -1,4 +1,4 @@
-//! Holds the library, as a program in another language calls it, against the
+//! Compares the library, as a program in another language calls it, with the
 //! unchanged Rust in the same process.
 //!
 //! `differential COUNT SEARCHED SEED` compares COUNT generated words in every way
@@ -101,11 +101,13 @@ fn size_of(arguments: &[String]) -> Option<Size> {
 
 fn print_counts(counts: &Counts, mistakes: usize) {
     println!(
-        "{} generated words, under both flags and in both byte orders: {} numbers and records are those of the published mips.rs; \
+        "{} generated words, under both flags and in both byte orders: \
+         {} numbers and records are those of the published mips.rs; \
          {} accepted records are encoded as a word no larger that it reads alike; \
          {} at any address and flag so too where it reads their word alike, else as another such word or not at all; \
          {} are encoded as the smallest word that is found by trying; {} records of refused words have no word; \
-         with a byte changed {} records are refused and {} are another word's in every byte; {} short slices and records are refused; \
+         with a byte changed {} records are refused and {} are another word's in every byte; \
+         {} short slices and records are refused; \
          {mistakes} mistakes put into the library are noticed",
         counts.words,
         counts.decoded,

@@ -1,6 +1,6 @@
 //! Some words that follow each other, answered by the library and by the Rust.
 //!
-//! The answers are looked at when all are there: 80 bytes that were written a moment
+//! The answers are compared when all are there: 80 bytes that were written a moment
 //! ago in pieces are slow to read as a whole, and one comparison for all is quick.
 
 use crate::answer::Ask;
@@ -12,8 +12,8 @@ use crate::vectors::Random;
 /// How many words a batch has.
 pub const WORDS: usize = 64;
 
-/// Stands in a record before the library writes there, so that a byte is seen that it
-/// leaves as it was.
+/// What a record has before the library writes there, so that a byte which it does
+/// not write is noticed.
 const UNWRITTEN: u8 = 0xa5;
 
 pub struct Batch {

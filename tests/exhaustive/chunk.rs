@@ -16,7 +16,7 @@ const WORDS: u32 = 1 << UPPER_SHIFT;
 /// How many chunks there are under a flag.
 pub const CHUNKS: usize = 256;
 
-/// From one upper byte to the next that is taken. An odd number comes to all of
+/// The step from one upper byte to the next that is taken. An odd number reaches all of
 /// them, and a part of a run then has words of many ops.
 const STRIDE: u8 = 37;
 
@@ -38,7 +38,7 @@ impl Chunk {
     }
 }
 
-/// What came of a chunk.
+/// The outcome of a chunk.
 #[derive(Debug, Default)]
 pub struct Outcome {
     pub words: u64,

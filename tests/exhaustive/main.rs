@@ -1,10 +1,10 @@
-//! Holds the library against the unchanged Rust on all 2^32 words under both flags,
+//! Compares the library with the unchanged Rust on all 2^32 words under both flags,
 //! in chunks: a chunk that is finished stays finished when the program is stopped.
 //!
 //! `compare RESULTS THREADS EVERY MOST` compares up to MOST of the chunks that are not
-//! in the file RESULTS yet and adds them to it. Of each upper byte that EVERY divides
+//! in the file RESULTS yet and adds them to it. For each upper byte that EVERY divides
 //! the accepted records are encoded as well; with 0 none are. `summary RESULTS` prints
-//! what all chunks in the file come to.
+//! the sums over all chunks in the file.
 
 mod batch;
 #[path = "../differential/boundary.rs"]

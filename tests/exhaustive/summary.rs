@@ -1,4 +1,4 @@
-//! What all chunks come to.
+//! The sums over all chunks.
 
 use crate::chunk::{self, Chunk, Outcome};
 use crate::results::Results;
@@ -30,7 +30,7 @@ impl Total {
         self
     }
 
-    /// The results stand in the order of their chunks, so the checksum is the same in
+    /// The results are in the order of their chunks, so the checksum is the same in
     /// whatever order they were compared.
     fn of(results: &Results, wide: bool) -> Total {
         let chunks = results.iter().filter(|(chunk, _)| chunk.wide == wide);
@@ -88,12 +88,13 @@ fn verdict(totals: &[Total; 2]) -> (i32, String) {
         return (STATUS_UNFINISHED, text);
     }
     if totals.iter().any(|total| total.sum.accepted != ACCEPTED) {
-        let text = format!("not {ACCEPTED} words are accepted under each flag");
+        let text = format!("the words accepted are not {ACCEPTED} under each flag");
         return (STATUS_FAILED, text);
     }
     let text = format!(
         "{words} answers, to all words under both flags, have the number and the record of the published mips.rs; \
-         {ACCEPTED} words are accepted under each flag; {encoded} records are encoded as their word or as a smaller one with the same record"
+         {ACCEPTED} words are accepted under each flag; {encoded} records are encoded as their word \
+         or as a smaller one with the same record"
     );
     (0, text)
 }

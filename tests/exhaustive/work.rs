@@ -27,7 +27,7 @@ impl Plan {
         self.every != 0 && chunk.upper % self.every == 0
     }
 
-    /// A chunk whose records were not encoded is taken again if they are to be.
+    /// A chunk whose records were not encoded is taken again if they should be.
     fn is_finished(&self, chunk: Chunk, results: &Results) -> bool {
         match results.get(&chunk) {
             Some(outcome) => !self.is_encoding(chunk) || outcome.encoded == outcome.accepted,

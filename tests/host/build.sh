@@ -1,5 +1,5 @@
-# Shared by tests/host, tests/pages and tests/threads: programs in C for x86-64, the machine of the library, linked with it, and mistakes
-# put between the two. Read after tools/lib.sh; need_x86_cc and need_archive come first.
+# Shared by tests/host, tests/pages and tests/threads: programs in C for x86-64, the machine of the library, linked with
+# it, and mistakes put between the two. Read after tools/lib.sh; need_x86_cc and need_archive come first.
 # shellcheck shell=sh
 # shellcheck disable=SC2154
 
@@ -7,11 +7,12 @@
 build_c() {
     program=$out/$1
     shift
-    "$x86_cc" -std=c11 -Wall -Wextra -Werror -O2 -I "$root/include" -o "$program" "$@" "$archive" >"$program.txt" 2>&1 ||
+    "$x86_cc" -std=c11 -Wall -Wextra -Werror -O2 -I "$root/include" -o "$program" "$@" "$archive" \
+        >"$program.txt" 2>&1 ||
         failed "${program##*/} does not build; see $program.txt"
 }
 
-# build_wrong PROGRAM FUNCTIONS SOURCE..: the same, with the test's wrong.c before those functions of the library.
+# build_wrong PROGRAM FUNCTIONS SOURCE..: the same, with the test's wrong.c around those functions of the library.
 build_wrong() {
     wrong=$1
     functions=$2
@@ -22,7 +23,7 @@ build_wrong() {
     build_c "$wrong" "$here/wrong.c" "$@"
 }
 
-# first_said PROGRAM INPUT NUMBER: the first line that it says if the library makes that mistake.
+# first_said PROGRAM INPUT NUMBER: the first line that it prints if the library makes that mistake.
 first_said() {
     (
         export MISTAKE="$3"
@@ -30,8 +31,9 @@ first_said() {
     )
 }
 
-# check_mistakes PROGRAM INPUT LAST WORD: the program complains with a line that begins with the word, whichever mistake of wrong.c the
-# library makes. A program that overlooks a mistake would agree with every library. The library itself has passed by now.
+# check_mistakes PROGRAM INPUT LAST WORD: the program complains with a line that begins with the word, whichever mistake
+# of wrong.c the library makes. A program that overlooks a mistake would agree with every library. The library itself
+# has passed by now.
 check_mistakes() {
     number=1
     while [ "$number" -le "$3" ]; do

@@ -1,5 +1,5 @@
-/* Compares the library for C with the answers in the frames on standard input, which the driver of tests/oracle writes (its mode
-   `records`). */
+/* Compares the library for C with the answers in the frames on standard input, which the driver of tests/oracle writes
+   (its mode `records`). */
 #define _GNU_SOURCE
 #include "../lent.h"
 #include "calmuredda.h"
@@ -13,8 +13,8 @@ enum {
     LONGEST_INPUT = 200,
     LONGEST_BUFFER = 200,
     AREA_BYTES = CANARY_BYTES + ALIGNMENTS + LONGEST_BUFFER + CANARY_BYTES,
-    /* How often an empty buffer is null. NULL_INPUT_EVERY has no factor in common with it, so that both are null at times, and one
-       of them. */
+    /* How often an empty buffer is null. NULL_INPUT_EVERY has no factor in common with it, so that sometimes both are
+       null, and sometimes one of them. */
     NULL_BUFFER_EVERY = 5,
     MOST_COMPLAINTS = 5
 };
@@ -64,11 +64,11 @@ static uint64_t complaints;
 
 static void complain(const struct frame *frame, const char *what, uint64_t got, uint64_t wanted)
 {
-    printf("frame %" PRIu64 " (%c, %d bytes at %" PRIx64 ", flags %d and %d): %s %" PRIx64 ", wanted %" PRIx64 "\n", asked_so_far,
-           frame->kind, frame->length, frame->va, frame->big, frame->wide, what, got, wanted);
+    printf("frame %" PRIu64 " (%c, %d bytes at %" PRIx64 ", flags %d and %d): %s %" PRIx64 ", wanted %" PRIx64 "\n",
+           asked_so_far, frame->kind, frame->length, frame->va, frame->big, frame->wide, what, got, wanted);
     complaints++;
     if (complaints == MOST_COMPLAINTS) {
-        printf("no more frames are looked at\n");
+        printf("the other frames are not compared\n");
         exit(EXIT_FAILURE);
     }
 }
@@ -86,7 +86,8 @@ static uint8_t *lend_buffer(uint8_t *area, size_t start, size_t size)
 }
 
 /* Names the first byte of the area that is not as wanted; offsets count from the buffer's start. */
-static void compare_area(const struct frame *frame, size_t size, const uint8_t *area, const uint8_t *wanted, size_t start)
+static void compare_area(const struct frame *frame, size_t size, const uint8_t *area, const uint8_t *wanted,
+                         size_t start)
 {
     char what[80];
     size_t i = 0;
@@ -114,7 +115,8 @@ static void check_buffer(const struct frame *frame, size_t size)
         memcpy(wanted + start, frame->record, CALMUREDDA_RECORD_BYTES);
     }
     uint8_t *buffer = lend_buffer(area, start, size);
-    uint8_t got = calmuredda_decode(lend(frame->input, frame->length), frame->length, frame->va, frame->big, frame->wide, buffer, size);
+    uint8_t got = calmuredda_decode(lend(frame->input, frame->length), frame->length, frame->va, frame->big,
+                                    frame->wide, buffer, size);
     calls++;
     if (got != answer) {
         complain(frame, "the decoder's number is", got, answer);
@@ -122,7 +124,7 @@ static void check_buffer(const struct frame *frame, size_t size)
     compare_area(frame, size, area, wanted, start);
 }
 
-/* Each buffer twice, so that it meets both places of the input. */
+/* Each buffer twice, so that it is tried with both places of the input. */
 static void check_decode(const struct frame *frame)
 {
     for (int i = 0; i < BUFFER_SIZES; i++) {
@@ -228,7 +230,8 @@ static void say_counts(void)
     printf("; %" PRIu64 " empty slices and %" PRIu64 " empty buffers were null", null_inputs, null_buffers);
     printf("; records encoded, in brackets those that have a word");
     for (int i = 0; i < KINDS; i++) {
-        printf("%s %" PRIu64 " %s (%" PRIu64 ")", i == 0 ? ":" : ",", kinds[i].asked, kinds[i].name, kinds[i].with_word);
+        printf("%s %" PRIu64 " %s (%" PRIu64 ")", i == 0 ? ":" : ",", kinds[i].asked, kinds[i].name,
+               kinds[i].with_word);
     }
     printf("\n");
 }

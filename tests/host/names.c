@@ -1,5 +1,6 @@
-/* The names of calmuredda.h, each held against a record or an answer in which its number or place shows. The words are read as
-   the manual has them; the frames of tests/oracle go by offsets and numbers alone and would not notice a wrong name. */
+/* The names of calmuredda.h, each compared with a record or an answer in which its number or place shows. The words are
+   read as the manual has them; the frames of tests/oracle have offsets and numbers alone and would not notice a wrong
+   name. */
 #include "names.h"
 
 #include <inttypes.h>
@@ -11,7 +12,7 @@
 enum { OFF = 0, ON = 1 };
 static const uint64_t ADDRESS = 0x80001000;
 
-/* A word's record has this value in this many bytes there. */
+/* A word's record has this value in this many bytes at this place. */
 struct named {
     uint32_t word;
     int at;
@@ -83,7 +84,8 @@ static int check_name(const struct named *name)
     if (value == name->value) {
         return 1;
     }
-    printf("name: the record of %08" PRIx32 " has %" PRIx64 " at %d, not %" PRIx64 "\n", name->word, value, name->at, name->value);
+    printf("name: the record of %08" PRIx32 " has %" PRIx64 " at %d, not %" PRIx64 "\n", name->word, value, name->at,
+           name->value);
     return 0;
 }
 

@@ -1,2 +1,2 @@
-/* Do the names in calmuredda.h stand for what the library answers? Says what does not. */
+/* Do the names in calmuredda.h mean what the library answers? Prints those that do not. */
 int check_names(void);

@@ -1,5 +1,5 @@
-/* Stands between the test and the library (the linker's --wrap) and makes one of the mistakes below, by the number in the
-   environment's MISTAKE: the test has to notice each. */
+/* Comes between the test and the library (the linker's --wrap) and makes one of the mistakes below, by the number in
+   the environment's MISTAKE: the test must notice each. */
 #include <stdint.h>
 #include <string.h>
 
@@ -22,8 +22,8 @@ enum {
     VALUE_OF_32_BITS,
     READS_AFTER_SLICE,
     WRITES_SLICE,
-    NOT_SMALLEST,              /* or for addu in a move */
-    OPERANDS_LAST_BYTE,        /* not looked at */
+    NOT_SMALLEST,              /* `or` instead of `addu` for a move */
+    OPERANDS_LAST_BYTE,        /* not read */
     NAMES_LAST_BYTE,
     REFUSAL_HANDED_ON,
     LONGER_IS_REFUSED,
@@ -67,7 +67,8 @@ static void spoil(uint8_t number, uint8_t *record, size_t record_len)
 {
     switch (mistake()) {
     case WRITES_AFTER_RECORD:
-        record[record_len > CALMUREDDA_RECORD_BYTES ? CALMUREDDA_RECORD_BYTES : 0] ^= record_len > CALMUREDDA_RECORD_BYTES;
+        record[record_len > CALMUREDDA_RECORD_BYTES ? CALMUREDDA_RECORD_BYTES : 0] ^=
+            record_len > CALMUREDDA_RECORD_BYTES;
         break;
     case WRITES_AFTER_BUFFER:
         record[record_len] ^= 1;
@@ -90,8 +91,8 @@ static void spoil(uint8_t number, uint8_t *record, size_t record_len)
     }
 }
 
-uint8_t __wrap_calmuredda_decode(const uint8_t *bytes, size_t bytes_len, uint64_t va, uint8_t big, uint8_t wide, uint8_t *record,
-                                 size_t record_len)
+uint8_t __wrap_calmuredda_decode(const uint8_t *bytes, size_t bytes_len, uint64_t va, uint8_t big, uint8_t wide,
+                                 uint8_t *record, size_t record_len)
 {
     int number = mistake();
     if (number == SLICE_BEFORE_BUFFER && bytes_len < WORD_BYTES && record_len < CALMUREDDA_RECORD_BYTES) {
@@ -116,7 +117,7 @@ uint8_t __wrap_calmuredda_decode(const uint8_t *bytes, size_t bytes_len, uint64_
     return answer;
 }
 
-/* Mistakes in what the encoder looks at: the call is made with other arguments. */
+/* Mistakes in what the encoder reads: the call is made with other arguments. */
 static uint64_t encode_other(const uint8_t *record, size_t record_len, uint64_t va, uint8_t wide)
 {
     uint8_t copy[CALMUREDDA_RECORD_BYTES] = {0};
@@ -141,7 +142,8 @@ static uint64_t encode_other(const uint8_t *record, size_t record_len, uint64_t 
 
 static int is_smallest_move(uint64_t answer)
 {
-    return CALMUREDDA_NUMBER(answer) == CALMUREDDA_ACCEPTED && (CALMUREDDA_WORD(answer) & all_but_rs_and_rd) == ADDU_WITHOUT_RT;
+    return CALMUREDDA_NUMBER(answer) == CALMUREDDA_ACCEPTED &&
+           (CALMUREDDA_WORD(answer) & all_but_rs_and_rd) == ADDU_WITHOUT_RT;
 }
 
 static uint64_t refusal(uint8_t number)
@@ -162,7 +164,8 @@ uint64_t __wrap_calmuredda_encode(const uint8_t *record, size_t record_len, uint
     if (number == NOT_SMALLEST && is_smallest_move(answer)) {
         return answer + OR_FOR_ADDU;
     }
-    if (number == REFUSAL_HANDED_ON && answer == refusal(CALMUREDDA_NO_WORD) && record[0] > 0 && record[0] < CALMUREDDA_NO_WORD) {
+    if (number == REFUSAL_HANDED_ON && answer == refusal(CALMUREDDA_NO_WORD) && record[0] > 0 &&
+        record[0] < CALMUREDDA_NO_WORD) {
         return refusal(record[0]);
     }
     if (number == WORD_OF_REFUSAL && answer == refusal(CALMUREDDA_NO_WORD)) {

@@ -3,11 +3,11 @@
 
     assembler.py REPOSITORY FOLDER
 
-FOLDER has the statements (statements.py) and what the assembler makes of them. A statement whose word keeps the page's Restrictions
-must be taken silently, for exactly that word, whether the page has Restrictions or not. One whose word breaks a Restriction must be
-answered as the table below says; what the assembler does not know of, or cannot be asked, has its lines there too. Printed are each
-rule with its counts and pages, what is answered otherwise, and last a line of sums. The exit status is 1 if a statement is answered
-otherwise, or if a rule is for no statement.
+FOLDER has the statements (statements.py) and what the assembler makes of them. A statement whose word keeps the page's
+Restrictions must be taken silently, for exactly that word, whether the page has Restrictions or not. One whose word
+breaks a Restriction must be answered as the table below says; what the assembler does not know, or cannot be asked, has
+its lines there too. It prints each rule with its counts and pages, what is answered otherwise, and last a line of sums.
+The exit status is 1 if a statement is answered otherwise, or if no statement needs a rule.
 """
 import collections
 import sys
@@ -23,8 +23,8 @@ KINDS = {"Error": REFUSED, "Warning": WARNED}
 
 # ── the rules ──
 #
-# For statements that break this part of a page's Restrictions (a field, or a relation of Page.antt) and that `when` chooses: what the
-# assembler does, what it says, and what is broken, or why that cannot be shown.
+# For statements that break this part of a page's Restrictions (a field, or a relation of Page.antt) and that `when`
+# chooses: what the assembler does, what it says, and what is broken, or why that cannot be shown.
 
 Rule = collections.namedtuple("Rule", "name part when deed says text")
 
@@ -45,11 +45,23 @@ RULES = (
         "same-register-implied", "rs-is-rd", operands_are(1), REFUSED, "a destination register must be supplied",
         "rs is rd, where the Format line leaves rd 31 out",
     ),
-    Rule("past-the-end", "inside", always, REFUSED, "operand 4 out of range", "position and size together are above 32, or 64"),
-    Rule("size-below-0", "ordered", size_is(lambda size: size < 0), REFUSED, "operand 4 out of range", "the size is negative"),
-    Rule("odd-condition-code", "Cc", always, WARNED, "condition code register should be even for {name}, was {cc}", "cc is odd"),
+    Rule(
+        "past-the-end", "inside", always, REFUSED, "operand 4 out of range",
+        "position and size together are above 32, or 64",
+    ),
+    Rule(
+        "size-below-0", "ordered", size_is(lambda size: size < 0), REFUSED, "operand 4 out of range",
+        "the size is negative",
+    ),
+    Rule(
+        "odd-condition-code", "Cc", always, WARNED, "condition code register should be even for {name}, was {cc}",
+        "cc is odd",
+    ),
     # what the assembler does not know
-    Rule("size-0", "ordered", size_is(lambda size: size == 0), TAKEN, None, "the size is 0: only a negative one is refused"),
+    Rule(
+        "size-0", "ordered", size_is(lambda size: size == 0), TAKEN, None,
+        "the size is 0: only a negative one is refused",
+    ),
     Rule("no-control-register", "Fs", always, TAKEN, None, "a control register: any number is taken"),
     Rule("no-hardware-register", "Rd", always, TAKEN, None, "a hardware register: any number is taken"),
     # what it cannot be asked
@@ -68,12 +80,12 @@ def rule_for(statement):
 
 
 def said_in(statement, text):
-    """A message without the statement, which the assembler repeats behind an error."""
+    """A message without the statement, which the assembler repeats after an error."""
     return text.removesuffix(f" `{statement.text}'")
 
 
 def deed_of(statement, words, messages):
-    """What the assembler does and says, or None if that is nothing of the kind that it should."""
+    """What the assembler does and says, or None if that is not of a kind that a rule can name."""
     if len(messages) == 1:
         kind, text = messages[0]
         wanted = [] if kind == "Error" else [statement.word]
@@ -82,7 +94,7 @@ def deed_of(statement, words, messages):
         return None
     if words == [statement.word]:
         return TAKEN, None
-    # The same statement stands for a word that the page allows.
+    # The same statement means a word that the page allows.
     same = statement.page.allowed(words[0]) and text_of(statement.page, words[0]) == statement.text
     return (OTHER, None) if same else None
 
@@ -95,7 +107,7 @@ def wanted_of(statement, rule):
 
 
 class Comparison:
-    """One run: what the assembler does as one architecture, beside what the pages ask for."""
+    """One run: what the assembler does as one architecture, compared with what the pages ask for."""
 
     def __init__(self, run):
         self.run = run
@@ -152,7 +164,8 @@ def compared(pages, folder, bits):
 def sums_text(comparison):
     deeds = comparison.deeds
     kept = f"{deeds['kept']} keep the Restrictions and are taken"
-    broken = f"{deeds[REFUSED]} that break one are refused, {deeds[WARNED]} warned about, {deeds[TAKEN] + deeds[OTHER]} cannot show it"
+    shown = f"{deeds[REFUSED]} that break one are refused, {deeds[WARNED]} warned about"
+    broken = f"{shown}, {deeds[TAKEN] + deeds[OTHER]} cannot show it"
     return f"{comparison.run}: {deeds.total()} statements, {kept}, {broken}, {deeds['unexplained']} unexplained"
 
 

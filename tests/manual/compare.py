@@ -3,10 +3,10 @@
 
     compare.py REPOSITORY FOLDER
 
-FOLDER has the words (words.py) and what the tools print for them. Compared are: is the word defined, its mnemonic, its operands
-in the Format line's order, the target of a branch or jump. A difference must be explained by a rule of the tables below.
-Printed are each rule with its counts, the differences that no rule explains, and last a line of sums. The exit status is 1 if a
-difference is not explained, or if a rule explains nothing.
+FOLDER has the words (words.py) and what the tools print for them. It compares whether the word is defined, its
+mnemonic, its operands in the Format line's order, and the target of a branch or jump. A difference must be explained by
+a rule of the tables below. It prints each rule with its counts, the differences that no rule explains, and last a line
+of sums. The exit status is 1 if a difference is not explained, or if a rule explains nothing.
 """
 import collections
 import struct
@@ -20,7 +20,7 @@ BINUTILS = ("binutils-64", "binutils-32")
 LLVM = ("llvm-64", "llvm-32")
 BOTH = BINUTILS + LLVM
 WIDE = ("binutils-64", "llvm-64")
-SHOWN = 20  # so many kinds of unexplained differences are printed for each run
+SHOWN = 20  # how many kinds of unexplained differences are printed for each run
 
 Reading = collections.namedtuple("Reading", "name operands")
 
@@ -31,9 +31,10 @@ def named(text):
 
 # ── how a tool spells a reading ──
 #
-# A rewrite takes a page, a word of it, the word's address and the reading so far, and gives the reading as a tool prints it.
+# A rewrite takes a page, a word of it, the word's address and the reading so far, and gives the reading as a tool
+# prints it.
 
-HALF_CODE = 10  # `break` is printed with its code in two halves of so many bits
+HALF_CODE = 10  # `break` is printed with its code in two halves of this many bits
 SIGNED = 2**63  # addresses from here on are below 0
 
 
@@ -102,10 +103,11 @@ def without_zero(page, word, at, told):
 
 
 def target_as(number):
-    """The target of a branch or jump as another number, made of it and of the address where the word stands."""
+    """The target of a branch or jump as another number, made of it and of the word's address."""
 
     def rewrite(page, word, at, told):
-        return told._replace(operands=[("#", number(part[1], at)) if part[0] == "to" else part for part in told.operands])
+        operands = [("#", number(part[1], at)) if part[0] == "to" else part for part in told.operands]
+        return told._replace(operands=operands)
 
     return rewrite
 
@@ -132,7 +134,8 @@ def size_modulo(bits):
 
 
 def with_both_targets(join):
-    """clz and its kin name their target in rt and in rd; where these differ, which is forbidden, a tool prints both somehow."""
+    """clz and its kin name their target in rt and in rd; where these differ, which is forbidden, a tool prints both
+    somehow."""
 
     def rewrite(page, word, at, told):
         rt, rd = page.field(word, "Rt"), page.field(word, "Rd")
@@ -150,7 +153,8 @@ def bits_of_both(rt, rd):
 
 
 def impl_parts(impl):
-    """Impl as a register's number, the eight bits below, and three bits that can choose among registers of that number."""
+    """Impl as a register's number, the eight bits below, and three bits that can choose among registers of that
+    number."""
     return impl >> 11, impl >> 3 & 0xFF, impl & 7
 
 
@@ -168,8 +172,8 @@ def as_register_and_sel(zero_printed):
 
 # ── rules of spelling ──
 #
-# A rule says what the tool always prints for words of these pages: the tool's text is compared with the page's reading after
-# all rules that are for the page, in this order.
+# A rule says what the tool always prints for words of these pages: the tool's text is compared with the page's reading
+# after all rules that are for the page, in this order.
 
 Spelling = collections.namedtuple("Spelling", "name runs pages rewrite text")
 
@@ -196,9 +200,15 @@ ZERO_BRANCHES = {"beq": "beqz", "bne": "bnez", "beql": "beqzl", "bnel": "bnezl"}
 ONE_NAME = {"dextm": "dext", "dextu": "dext", "dinsm": "dins", "dinsu": "dins"}
 
 SPELLINGS = (
-    Spelling("ror", BINUTILS, tuple(ROTATED), renamed(ROTATED), "rotr, rotrv, drotr, drotrv, drotr32 are called ror and so on"),
+    Spelling(
+        "ror", BINUTILS, tuple(ROTATED), renamed(ROTATED),
+        "rotr, rotrv, drotr, drotrv, drotr32 are called ror and so on",
+    ),
     Spelling("c2", BINUTILS, ("cop2",), renamed({"cop2": "c2"}), "cop2 is called c2"),
-    Spelling("sll-idioms", BINUTILS, named("nop ssnop ehb"), as_shift_of_zero, "nop, ssnop, ehb: the sll that they are"),
+    Spelling(
+        "sll-idioms", BINUTILS, named("nop ssnop ehb"), as_shift_of_zero,
+        "nop, ssnop, ehb: the sll that they are",
+    ),
     Spelling("b-idiom", BINUTILS, ("b",), with_zeros_compared("beq", 2), "b: the beq that it is"),
     Spelling("bal-idiom", BINUTILS, ("bal",), with_zeros_compared("bgezal", 1), "bal: the bgezal that it is"),
     Spelling(
@@ -207,19 +217,35 @@ SPELLINGS = (
     ),
     Spelling("dli", ("binutils-64",), ("ori",), short_if_zero("Rs", {"ori": "dli"}), "ori with rs 0 is called dli"),
     Spelling(
-        "move", LLVM, tuple(MOVED), short_if_zero("Rt", MOVED), "or, addu, daddu with rt 0 are called move; nor is called not"
+        "move", LLVM, tuple(MOVED), short_if_zero("Rt", MOVED),
+        "or, addu, daddu with rt 0 are called move; nor is called not",
     ),
     Spelling(
         "beqz", LLVM, tuple(ZERO_BRANCHES), short_if_zero("Rt", ZERO_BRANCHES),
         "beq, bne, beql, bnel with rt 0 are called beqz, bnez, beqzl, bnezl",
     ),
-    Spelling("jalr-as-jr", LLVM, ("jalr",), short_if_zero("Rd", {"jalr": "jr"}), "jalr with rd 0 is called jr, as in release 6"),
-    Spelling("dext-dins", WIDE, tuple(ONE_NAME), renamed(ONE_NAME), "dextm, dextu are called dext; dinsm, dinsu are called dins"),
+    Spelling(
+        "jalr-as-jr", LLVM, ("jalr",), short_if_zero("Rd", {"jalr": "jr"}),
+        "jalr with rd 0 is called jr, as in release 6",
+    ),
+    Spelling(
+        "dext-dins", WIDE, tuple(ONE_NAME), renamed(ONE_NAME),
+        "dextm, dextu are called dext; dinsm, dinsu are called dins",
+    ),
     Spelling("cc-as-fcc", BOTH, BRANCHES_1 + MOVES_ON_CC + COMPARES, marked("$fcc"), "cc 3 is printed as $fcc3"),
     Spelling("cc-as-cc", BINUTILS, BRANCHES_2, marked("$cc"), "cc 3 of a branch on coprocessor 2 is printed as $cc3"),
-    Spelling("code-printed", BOTH, CODES, with_code, "a code that the Format line leaves out is printed, if it is not 0"),
-    Spelling("code-in-halves", BOTH, ("break",), with_code_halves, "break's code is printed as two ten-bit numbers, no last 0"),
-    Spelling("div-of-three", BOTH, DIVISIONS, with_zero_first, "div, divu, ddiv, ddivu are printed with register 0 first"),
+    Spelling(
+        "code-printed", BOTH, CODES, with_code,
+        "a code that the Format line leaves out is printed, if it is not 0",
+    ),
+    Spelling(
+        "code-in-halves", BOTH, ("break",), with_code_halves,
+        "break's code is printed as two ten-bit numbers, no last 0",
+    ),
+    Spelling(
+        "div-of-three", BOTH, DIVISIONS, with_zero_first,
+        "div, divu, ddiv, ddivu are printed with register 0 first",
+    ),
     Spelling("zero-left-out", BOTH, ("sdbbp",), without_zero, "the code of sdbbp is left out if it is 0"),
     Spelling("sel-0-printed", LLVM, MOVES_0, with_sel, "sel is printed even if it is 0"),
     Spelling(
@@ -228,24 +254,34 @@ SPELLINGS = (
     ),
     Spelling("impl-as-two", LLVM, MOVES_2, as_register_and_sel(True), "the same, and sel is printed even if it is 0"),
     Spelling("size-modulo-64", LLVM, INSERTS, size_modulo(6), "the size of ins, dins is printed modulo 64: 64 as 0"),
-    Spelling("size-modulo-2^32", BINUTILS, INSERTS, size_modulo(32), "a negative size of ins, dins is printed modulo 2^32"),
+    Spelling(
+        "size-modulo-2^32", BINUTILS, INSERTS, size_modulo(32),
+        "a negative size of ins, dins is printed modulo 2^32",
+    ),
     Spelling(
         "target-or-target", BINUTILS, COUNTS, with_both_targets(either),
         "clz with rt 2, rd 3 is printed with `$3 or $2`; with the other if one is 0",
     ),
-    Spelling("target-bits", LLVM, COUNTS, with_both_targets(bits_of_both), "clz with rt 2, rd 5 is printed with $7, both's bits"),
+    Spelling(
+        "target-bits", LLVM, COUNTS, with_both_targets(bits_of_both),
+        "clz with rt 2, rd 5 is printed with $7, both's bits",
+    ),
     Spelling("distance", LLVM, BRANCHES, target_as(distance), "a branch is printed with the distance to its target"),
-    Spelling("region-left-out", LLVM, named("j jal"), target_as(within_region), "a jump is printed with its target's bits 27..0"),
+    Spelling(
+        "region-left-out", LLVM, named("j jal"), target_as(within_region),
+        "a jump is printed with its target's bits 27..0",
+    ),
 )
 
-# ── rules of scope: words that one side has and the other has not ──
+# ── rules of scope: words that one side has and the other lacks ──
 
 # the page has the word, the tool does not know it
 LeftOut = collections.namedtuple("LeftOut", "name runs pages when text")
-# the page forbids the word, the tool prints it all the same, as the page would have it; `when` tells why it is forbidden, a
-# second time, so that a page that forbids more or less is noticed
+# the page forbids the word, the tool prints it nevertheless, as the page would have it; `when` says why it is
+# forbidden, a second time, so that a page that forbids more or less is noticed
 Forbidden = collections.namedtuple("Forbidden", "name runs pages when text")
-# no page has the word, the tool prints it: one of these words (mask/value) under one of these names, or any if none is given
+# no page has the word, the tool prints it: one of these words (mask/value) under one of these names, or under any name
+# if none is given
 Added = collections.namedtuple("Added", "name runs names words text")
 # no page has the word, the tool reads it as if these bits were zero
 Ignored = collections.namedtuple("Ignored", "name runs words bits text")
@@ -265,7 +301,7 @@ def always(page, word):
 
 
 def fields_are(names, test):
-    """Does the test hold of these fields?"""
+    """Is the test true of these fields?"""
     return lambda page, word: test(*(page.field(word, name) for name in named(names)))
 
 
@@ -278,8 +314,14 @@ LEFT_OUT = (
         "impl-below", BINUTILS, named("cfc2 ctc2"), fields_are("Impl", lambda impl: any(impl_parts(impl)[1:])),
         "cfc2, ctc2: of Impl the tool knows a register, not bits 10..0",
     ),
-    LeftOut("no-cop2", LLVM, OTHER_MOVES_2 + BRANCHES_2 + ("cop2",), always, "no cfc2, ctc2, mfhc2, mthc2, cop2, bc2f and so on"),
-    LeftOut("no-paired-single", LLVM, PAIRED_SINGLES, always, "of ps only add, sub, mul, pll and its kin, and conversions"),
+    LeftOut(
+        "no-cop2", LLVM, OTHER_MOVES_2 + BRANCHES_2 + ("cop2",), always,
+        "no cfc2, ctc2, mfhc2, mthc2, cop2, bc2f and so on",
+    ),
+    LeftOut(
+        "no-paired-single", LLVM, PAIRED_SINGLES, always,
+        "of ps only add, sub, mul, pll and its kin, and conversions",
+    ),
     LeftOut("no-prefx", LLVM, ("prefx",), always, "no prefx"),
     LeftOut("no-shadow-registers", LLVM, named("rdpgpr wrpgpr"), always, "no rdpgpr, wrpgpr"),
     LeftOut("no-wait-code", LLVM, ("wait",), fields_are("Code", lambda code: code > 0), "wait with code 0 only"),
@@ -291,17 +333,21 @@ LEFT_OUT = (
 
 FORBIDDEN = (
     Forbidden(
-        "jalr-same-register", BOTH, named("jalr jalr.hb"), fields_are("Rs Rd", lambda rs, rd: rs == rd), "jalr, jalr.hb: rs is rd"
+        "jalr-same-register", BOTH, named("jalr jalr.hb"), fields_are("Rs Rd", lambda rs, rd: rs == rd),
+        "jalr, jalr.hb: rs is rd",
     ),
     Forbidden(
-        "link-register-tested", BOTH, named("bltzal bgezal bltzall bgezall"), fields_are("Rs", lambda rs: rs == LINK_REGISTER),
+        "link-register-tested", BOTH, named("bltzal bgezal bltzall bgezall"),
+        fields_are("Rs", lambda rs: rs == LINK_REGISTER),
         "bltzal, bgezal, bltzall, bgezall: rs is 31",
     ),
     Forbidden(
-        "count-with-two-targets", BOTH, COUNTS, fields_are("Rt Rd", lambda rt, rd: rt != rd), "clz, clo, dclz, dclo: rt is not rd"
+        "count-with-two-targets", BOTH, COUNTS, fields_are("Rt Rd", lambda rt, rd: rt != rd),
+        "clz, clo, dclz, dclo: rt is not rd",
     ),
     Forbidden(
-        "ext-past-the-end", BOTH, named("ext dextm dextu"), fields_are("Lsb Msbd", lambda lsb, msbd: lsb + msbd + 1 > WORD_BITS),
+        "ext-past-the-end", BOTH, named("ext dextm dextu"),
+        fields_are("Lsb Msbd", lambda lsb, msbd: lsb + msbd + 1 > WORD_BITS),
         "ext, dextm, dextu: position and size together are above 32, or 64",
     ),
     Forbidden(
@@ -317,7 +363,8 @@ FORBIDDEN = (
         "ctc1: a register that does not exist, or register 0, which cannot be written",
     ),
     Forbidden(
-        "odd-condition-code", BINUTILS, COMPARES_PS + named("movf.ps movt.ps"), fields_are("Cc", lambda cc: cc % 2 == 1),
+        "odd-condition-code", BINUTILS, COMPARES_PS + named("movf.ps movt.ps"),
+        fields_are("Cc", lambda cc: cc % 2 == 1),
         "c.cond.ps, movf.ps, movt.ps: cc is odd",
     ),
     Forbidden(
@@ -340,9 +387,13 @@ ADDED = (
     Added("any-cop0", BINUTILS, "c0", "fe000000/42000000", "a name, c0, for any word of COP0 with bit 25 set"),
     Added("any-cop1", BINUTILS, "c1", "fe000000/46000000", "a name, c1, for any word of COP1 with bit 25 set"),
     Added("jalx", BOTH, "jalx", "fc000000/74000000", "jalx, the jump to MIPS16e or microMIPS code"),
-    Added("user-defined", BINUTILS, " ".join(f"udi{n}" for n in range(16)), "fc000030/70000010", "SPECIAL2's user-defined words"),
     Added(
-        "msa", BINUTILS, "", "fc000000/78000000 ffe00000/45600000 ffe00000/45e00000 ff000000/47000000 fc00073f/00000005",
+        "user-defined", BINUTILS, " ".join(f"udi{n}" for n in range(16)), "fc000030/70000010",
+        "SPECIAL2's user-defined words",
+    ),
+    Added(
+        "msa", BINUTILS, "",
+        "fc000000/78000000 ffe00000/45600000 ffe00000/45e00000 ff000000/47000000 fc00073f/00000005",
         "the extension MSA: op 30, bz and bnz in COP1, lsa",
     ),
     Added("msa-64", ("binutils-64",), "dlsa", "fc00073f/00000015", "MSA for MIPS64: dlsa"),
@@ -381,7 +432,10 @@ ADDED = (
         " ffffffff/42000010 ffe007ff/42000028",
         "the extension VZ: mfgc0 and its kin, tlbgr and its kin, hypcall",
     ),
-    Added("mcu", BINUTILS, "aclr aset iret", "fc1f0000/04070000 ffffffff/42000038", "the extension MCU: aclr, aset, iret"),
+    Added(
+        "mcu", BINUTILS, "aclr aset iret", "fc1f0000/04070000 ffffffff/42000038",
+        "the extension MCU: aclr, aset, iret",
+    ),
     Added(
         "smartmips", ("binutils-32",), "",
         "ffff07ff/00000052 fc1fffff/00000053 fc0007ff/70000088 fc0007ff/70000481 fc00ffff/00000459 fc00ffff/70000441",
@@ -414,8 +468,8 @@ IGNORED_WORDS = [(rule, patterns_of(rule)) for rule in IGNORED]
 
 # ── comparing ──
 
-# what the pages say of a word: the page, whether it defines the word, and its reading. A page that draws the word but forbids
-# it stands here too, with the reading that it would have
+# what the pages say of a word: the page, whether it defines the word, and its reading. A page that draws the word but
+# forbids it is here too, with the reading that it would have
 Said = collections.namedtuple("Said", "page defined reading")
 OP_AND_FUNCT, FUNCTS = 0xFC00003F, 64
 
@@ -451,11 +505,12 @@ def by_page(rules, run):
 
 
 class Comparison:
-    """One run: what a tool says, beside what the pages say."""
+    """One run: what a tool says, compared with what the pages say."""
 
     def __init__(self, run, table):
         self.run, self.table = run, table
-        self.spellings, self.left_out, self.forbidden = (by_page(rules, run) for rules in (SPELLINGS, LEFT_OUT, FORBIDDEN))
+        self.spellings, self.left_out = by_page(SPELLINGS, run), by_page(LEFT_OUT, run)
+        self.forbidden = by_page(FORBIDDEN, run)
         self.rules, self.sums, self.unexplained = collections.Counter(), collections.Counter(), {}
 
     def spelled(self, said, word, at):
@@ -556,7 +611,8 @@ def compared(pages, folder):
 
 def sums_text(run, sums):
     outright = f"{sums['agree'] + sums['neither']} agree outright ({sums['neither']} defined by neither)"
-    return f"{run}: {outright}, {sums['spelling']} by spelling, {sums['scope']} by scope, {sums['unexplained']} unexplained"
+    explained = f"{sums['spelling']} by spelling, {sums['scope']} by scope"
+    return f"{run}: {outright}, {explained}, {sums['unexplained']} unexplained"
 
 
 def print_rules(comparisons):

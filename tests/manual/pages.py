@@ -1,10 +1,11 @@
 #!/usr/bin/env python3
-"""Read the manual's pages as they stand in crates/manual/specs (Page.antt, Formats.antt, Pages.antt), by tests/antt.py.
+"""Read the manual's pages from crates/manual/specs (Page.antt, Formats.antt, Pages.antt), by tests/antt.py.
 
     pages.py REPOSITORY
 
-prints the table, a page a line: name, MIPS32 or MIPS64 alone, mask and value of the fixed bits, fields, operands of the Format
-lines, Restrictions. What the constructors of Page.antt mean is written here a second time, from that file's comments.
+prints the table, a page a line: name, MIPS32 or MIPS64 alone, mask and value of the fixed bits, fields, operands of the
+Format lines, Restrictions. What the constructors of Page.antt mean is written here a second time, from that file's
+comments.
 """
 import sys
 from pathlib import Path
@@ -17,7 +18,7 @@ from antt import constructors_of, parts, value_of  # noqa: E402
 MIPS32, MIPS64 = "MIPS32", "MIPS64"
 WORD_BITS, HALF_BITS, WORD_BYTES = 32, 16, 4
 INSIDE_LIMIT = 32  # the relation `inside` counts up to here
-REGION_BITS = 28  # a jump stays within so many bits of address
+REGION_BITS = 28  # a jump changes this many bits of the address
 ADDRESSES = 2**64
 
 
@@ -127,7 +128,8 @@ class Page:
         return [self.operand(arg, word, address) for arg in self.args(word)]
 
     def operand(self, arg, word, address):
-        """(mark, number) for a register, ("#", number), ("mem", offset, base), ("indexed", index, base) or ("to", address)."""
+        """(mark, number) for a register, ("#", number), ("mem", offset, base), ("indexed", index, base) or
+        ("to", address)."""
         head, *rest = arg
         if head in BY_FIELDS:
             return BY_FIELDS[head](self, word, address)
@@ -157,7 +159,7 @@ def jump_target(address, index):
     return (address + WORD_BYTES) % ADDRESSES >> REGION_BITS << REGION_BITS | WORD_BYTES * index
 
 
-# operands that are always of the same fields
+# operands that are always made of the same fields
 BY_FIELDS = {
     "offset-base": lambda page, word, address: ("mem", signed(page.field(word, "Offset")), page.field(word, "Base")),
     "index-base": lambda page, word, address: ("indexed", page.field(word, "Index"), page.field(word, "Base")),

@@ -3,8 +3,8 @@
 
     statements.py REPOSITORY FOLDER
 
-writes to FOLDER statements-64.s, with all pages, and statements-32.s, with those that are not MIPS64's alone: for each word a line
-with the page's name, the operands of its Format line, and the word as a comment.
+writes to FOLDER statements-64.s, with all pages, and statements-32.s, with those that are not MIPS64's alone: for each
+word a line with the page's name, the operands of its Format line, and the word as a comment.
 """
 import collections
 import itertools
@@ -15,17 +15,18 @@ from compare import LEFT_OUT, SPELLINGS, Reading, by_page, distance
 from pages import COLUMNS, MIPS32, RELATIONS, WORD_BITS, meets, pages_of, related
 from words import SEED, Random, allowed_word, words_of, words_of_cell
 
-PER_NUMBERS = 3  # words for every choice of numbers in the columns that a Restriction looks at
+PER_NUMBERS = 3  # words for every choice of numbers in the columns that a Restriction is about
 ARCHITECTURES = ("64", "32")
-# Nothing is to be put in or moved. The statements come after these lines.
+# The assembler must not insert or move anything. The statements come after these lines.
 DIRECTIVES = ("\t.set noreorder", "\t.set nomacro", "\t.set noat")
 
 # ── Restrictions, part by part ──
 
-# what a Restriction asks for: under the name of the field that it looks at, or of the relation; `kept` tells of a word
+# what a Restriction asks for, under the name of the field that it is about, or of the relation; `kept` says whether a
+# word keeps it
 Part = collections.namedtuple("Part", "name columns kept")
 
-# the columns that a relation looks at
+# the columns that a relation is about
 RELATED = {"rs-is-rd": ("rs", "rd"), "rt-is-rd": ("rt", "rd"), "inside": ("rd", "sa"), "ordered": ("rd", "sa")}
 assert set(RELATED) == set(RELATIONS), "RELATED has other relations than pages.py"
 
@@ -54,14 +55,15 @@ def parts_of(page):
 
 
 def words_around(page, part, random):
-    """Every choice of numbers in the columns that the part looks at, each in words that are allowed but for these columns."""
+    """Every choice of numbers in the columns that the part is about, each in words that are otherwise allowed."""
     for numbers in itertools.product(*(range(2 ** COLUMNS[column][1]) for column in part.columns)):
         others = [allowed_word(page, random) for _ in range(PER_NUMBERS)]
         yield from words_of_cell(part.columns, numbers, others)
 
 
 def words_asked(page, parts):
-    """The words of words.py and those around the page's Restrictions, as far as the page draws them, without doubles."""
+    """The words of words.py and those around the page's Restrictions, as far as the page draws them, without
+    repetitions."""
     random = Random(~SEED ^ page.mask << WORD_BITS ^ page.value)
     around = (words_around(page, part, random) for part in parts)
     return dict.fromkeys(filter(page.drawn, itertools.chain(words_of(page), *around)))
@@ -70,13 +72,13 @@ def words_asked(page, parts):
 # ── the text ──
 
 RUN = "binutils-64"
-# The assembler reads as objdump prints in these matters; else a statement is as the manual has it.
+# In these matters the assembler reads what objdump prints; otherwise a statement is as the manual has it.
 SPELLED = {"cc-as-fcc", "cc-as-cc", "code-printed", "code-in-halves", "div-of-three", "impl-as-register"}
-assert SPELLED <= {rule.name for rule in SPELLINGS}, "SPELLED has rules that compare.py has not"
+assert SPELLED <= {rule.name for rule in SPELLINGS}, "SPELLED has rules that compare.py lacks"
 SPELLINGS_OF = by_page([rule for rule in SPELLINGS if rule.name in SPELLED], RUN)
 # What objdump leaves out of a page has no statement either.
 LEFT_OUT_OF = by_page(LEFT_OUT, RUN)
-ORIGIN = 0  # where every statement is taken to stand
+ORIGIN = 0  # the address that every statement is taken to have
 
 
 def has_statement(page, word):
@@ -90,7 +92,7 @@ def operand_text(part, is_branch):
     if head == "indexed":
         return f"${rest[0]}(${rest[1]})"
     if head == "to":
-        # A branch goes by its distance; a jump's number is put into the word as it is.
+        # A branch is written with its distance; a jump's number is put into the word unchanged.
         return f".{distance(rest[0], ORIGIN):+d}" if is_branch else str(rest[0])
     return f"{'' if head == '#' else head}{rest[0]}"
 
@@ -144,7 +146,7 @@ def main():
     repository, folder = sys.argv[1:]
     pages = pages_of(repository)
     lines = {page.name: list(lines_of(page)) for page in pages}
-    assert len(lines) == len(pages), "two pages have one name"
+    assert len(lines) == len(pages), "two pages have the same name"
     for bits in ARCHITECTURES:
         with open(f"{folder}/statements-{bits}.s", "w", encoding="ascii") as file:
             file.writelines(f"{directive}\n" for directive in DIRECTIVES)

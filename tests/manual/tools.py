@@ -1,15 +1,15 @@
-"""Read what the tools print. Of the disassemblers: for each word nothing, if the tool does not know it, or its mnemonic and its
-operands. Of the assembler: for each line its words, and what is said of it."""
+"""Read what the tools print. From the disassemblers: for each word nothing, if the tool does not know it, or its
+mnemonic and its operands. From the assembler: for each line its words, and what is said of it."""
 import collections
 import functools
 import re
 
 from pages import WORD_BYTES
 
-# Operands are as `Page.operand` of pages.py gives them: ("$", 5), ("$f", 5), ("#", 12), ("mem", -4, 29), ("indexed", 3, 4);
-# what else stands there is ("text", as it is printed).
+# Operands are as `Page.operand` of pages.py gives them: ("$", 5), ("$f", 5), ("#", 12), ("mem", -4, 29),
+# ("indexed", 3, 4); anything else is ("text", as printed).
 
-# LLVM calls five general registers by name, objdump (as it is called here) none
+# LLVM calls five general registers by name, objdump (with the options of `run`) none
 NAMED = {"zero": "0", "gp": "28", "sp": "29", "fp": "30", "ra": "31"}
 REGISTER = re.compile(r"(\$[a-z]*)(\d+)")
 MEMORY = re.compile(r"(-?\d+)\(\$(\d+)\)")
@@ -22,7 +22,8 @@ LLVM_LINE = re.compile(r"\t(\S+)\s*(.*)\n")
 LLVM_DIRECTIVES = ("\t.text", "\t.set")
 LLVM_MESSAGE = re.compile(r"^[^:\n]+:(\d+):(\d+): (\w+): (.*)$", re.M)
 LLVM_UNKNOWN = ("1", "warning", "invalid instruction encoding")
-# a line of the assembler's listing: number, address, word, text; without a word if it makes none, and only with it if it makes more
+# a line of the assembler's listing: number, address, word, text; there is no word if the statement makes none, and more
+# lines with only a word if it makes several
 AS_LINE = re.compile(r" *(\d+) (?:(?:\S+| +) ([0-9A-F]{8}) | +)(?:\t.*)?\n")
 AS_REMARK = "****"  # a warning, once more
 AS_HEADING = re.compile(r"[^:]+: Assembler messages:")
@@ -61,7 +62,8 @@ def read_objdump(path, words, base):
 
 
 def read_llvm(printed, messages, words):
-    """The same from llvm-mc: it prints a line for each word that it knows, and names the others by line in its warnings."""
+    """The same from llvm-mc: it prints a line for each word that it knows, and names the others by line in its
+    warnings."""
     with open(messages, encoding="ascii") as file:
         said = LLVM_MESSAGE.findall(file.read())
     unknown = {int(line) for line, *rest in said if tuple(rest) == LLVM_UNKNOWN}
@@ -86,7 +88,7 @@ def read_messages(path):
 
 
 def read_assembler(listing, messages, count):
-    """(words, messages) of each of so many lines; a line that is refused has no word."""
+    """(words, messages) of each of this many lines; a line that is refused has no word."""
     words = collections.defaultdict(list)
     with open(listing, encoding="ascii") as file:
         for number, word in (AS_LINE.fullmatch(line).groups() for line in file if not line.startswith(AS_REMARK)):

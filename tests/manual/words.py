@@ -3,8 +3,8 @@
 
     words.py REPOSITORY FOLDER
 
-writes to FOLDER words.bin (big-endian, for objdump), words.hex (bytes as text, a word a line, for llvm-mc) and base (the
-address of the first word, in hex).
+writes to FOLDER words.bin (big-endian, for objdump), words.hex (bytes as text, a word a line, for llvm-mc) and base
+(the address of the first word, in hex).
 """
 import itertools
 import struct
@@ -18,15 +18,15 @@ from splitmix import Splitmix  # noqa: E402
 
 SEED = 20261115
 PER_PAGE = 700  # words of each page with its fields at random
-FLIP_ONE_IN = 4  # so many of them have one fixed bit wrong
+FLIP_ONE_IN = 4  # one in this many of them has a fixed bit wrong
 PER_FIXED_BIT = 3  # allowed words of each page for every fixed bit, with that bit wrong
 TRIES = 100  # to find an allowed word
 PER_PAIR = 6  # words of each page for every pair of columns, with the same number in both
 PER_CELL = 5  # words for every op and every number in one more column
 ANY_WORDS = 60000  # words of no page in particular
-REGISTERS = 32  # so many numbers a column of five bits has
+REGISTERS = 32  # how many numbers a column of five bits has
 EVERY_BIT = 2**WORD_BITS - 1
-# A jump stands in the last word below this address, so that it goes to the region above; others stand on either side of it.
+# A jump is in the last word below this address, so that it goes to the region above; others are on either side of it.
 REGION_START = 0x50000000
 JUMP = "j"
 
@@ -68,7 +68,8 @@ def allowed_word(page, random):
 
 
 def wrong_by_one_bit(page, random):
-    """Each fixed bit wrong, and else nothing: in a word with all fields 0, with all ones, and in words that are allowed."""
+    """Each fixed bit wrong, and nothing else: in a word with all fields 0, with all ones, and in words that are
+    allowed."""
     for bit in bits_of(page.mask):
         yield page.value ^ bit
         yield (page.value | EVERY_BIT & ~page.mask) ^ bit
@@ -85,7 +86,7 @@ def every_bit_of(column):
 
 
 def equal_columns(page, random):
-    """The same number in two columns: what is allowed in one often hangs on another."""
+    """The same number in two columns: what is allowed in one often depends on another."""
     for one, other in itertools.combinations(("rs", "rt", "rd", "sa"), 2):
         both = every_bit_of(one) | every_bit_of(other)
         for _ in range(PER_PAIR):
@@ -95,7 +96,8 @@ def equal_columns(page, random):
 
 
 def words_of(page):
-    random = Random(SEED ^ page.mask << WORD_BITS ^ page.value)  # its own, so that a page's words do not hang on other pages
+    # Its own generator, so that a page's words do not depend on other pages.
+    random = Random(SEED ^ page.mask << WORD_BITS ^ page.value)
     yield from at_limits(page, random)
     yield from wrong_by_one_bit(page, random)
     yield from equal_columns(page, random)
@@ -105,27 +107,27 @@ def words_of(page):
 
 
 def words_of_cell(columns, numbers, others):
-    """Words with these numbers in these columns, and else as each of the others has it."""
+    """Words with these numbers in these columns, and otherwise as each of the others has it."""
     fixed = sum(map(within, columns, numbers))
     mask = sum(map(every_bit_of, columns))
     return (fixed | other & ~mask for other in others)
 
 
 def words_of_cells(pages, random):
-    """Every op with every number in each other column, and where a page goes by funct with every pair of funct and rs or sa:
-    so that a page that the table lacks has words too."""
+    """Every op with every number in each other column and, where a page depends on funct, with every pair of funct and
+    rs or sa: so that a page that the table lacks has words too."""
     by_funct = {page.value >> COLUMNS["op"][0] for page in pages if page.mask & every_bit_of("funct")}
     for op in range(2 ** COLUMNS["op"][1]):
         for column in ("rs", "rt", "rd", "sa", "funct"):
             for number in range(2 ** COLUMNS[column][1]):
                 yield from words_of_cell(("op", column), (op, number), [random.word() for _ in range(PER_CELL)])
-        pairs = itertools.product(("rs", "sa"), range(REGISTERS), range(2 ** COLUMNS["funct"][1])) if op in by_funct else ()
-        for column, number, funct in pairs:
+        pairs = itertools.product(("rs", "sa"), range(REGISTERS), range(2 ** COLUMNS["funct"][1]))
+        for column, number, funct in pairs if op in by_funct else ():
             yield from words_of_cell(("op", column, "funct"), (op, number, funct), (0, random.word()))
 
 
 def all_words(pages):
-    """The words without doubles, page by page, and the address of the first."""
+    """The words without repetitions, page by page, and the address of the first."""
     found = {}
     jumps = []
     for page in pages:

@@ -1,5 +1,5 @@
-"""The words of a body: what the program `sweep` prints, blocks and pages. Written from document 01, `Blocks and pages` and
-`Numbers`. How a word is read comes from the caller: `read` takes a `Question` and answers with an `Answer` (rust.py)."""
+"""The words of a body: what the program `sweep` prints, blocks and pages. Written from document 01, `Blocks and pages`
+and `Numbers`. How a word is read comes from the caller: `read` takes a `Question` and gives an `Answer` (rust.py)."""
 from dataclasses import dataclass
 
 import section
@@ -24,7 +24,8 @@ class Body:
 
     def question(self, n):
         word = self.data[WORD_BYTES * n : WORD_BYTES * (n + 1)]
-        return Question(self.wide, (self.address + WORD_BYTES * n) % ADDRESSES, int.from_bytes(word, "big" if self.big else "little"))
+        order = "big" if self.big else "little"
+        return Question(self.wide, (self.address + WORD_BYTES * n) % ADDRESSES, int.from_bytes(word, order))
 
     def questions(self):
         return [self.question(n) for n in range(len(self))]

@@ -1,5 +1,5 @@
-"""The packed record and the printed line of its reading. Written from document 01, `Packed record` and `The printed line`, and
-from docs/DECISIONS.md, which says when 80 bytes are no reading's record."""
+"""The packed record and the printed line of its reading. Written from document 01, `Packed record` and `The printed
+line`, and from docs/DECISIONS.md, which says when 80 bytes are not the record of any reading."""
 import struct
 from dataclasses import dataclass, field
 from typing import NamedTuple
@@ -53,15 +53,6 @@ def unpacked(data):
     effect = struct.unpack_from("<BBBBQ", data, 12)
     operands = [Operand(*slot) for slot in struct.iter_unpack("<BBQ", data[24:64])]
     return Record(data[64:80].rstrip(b"\0"), number, flow, marks, count, target, effect, operands)
-
-
-def of_columns(columns):
-    """The record of an accepted answer, a line of tests/vectors/README.md's format."""
-    parts = columns.split()
-    number, flow, mark, present, target, *effect, count = [int(part, 16) for part in parts[3:14]]
-    slots = [Operand(*(int(part, 16) for part in parts[at : at + 3])) for at in range(14, 14 + 3 * SLOTS, 3)]
-    kind, first, second, size, value = effect
-    return Record(parts[26].encode(), number, flow, mark + HAS_TARGET * present, count, target, (kind, first, second, size, value), slots[:count])
 
 
 # ── is it the record of a reading? ──

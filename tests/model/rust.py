@@ -2,10 +2,8 @@
 import subprocess
 from typing import NamedTuple
 
-# Columns of an answer line, tests/vectors/README.md.
-QUESTION_COLUMNS = slice(0, 27)
-NUMBER_COLUMN = 28
-MARK_COLUMN = 32
+import record
+
 # A line of the mode `text` begins with address and word.
 TEXT_COLUMN = 26
 
@@ -23,7 +21,6 @@ class Answer(NamedTuple):
     number: int
     mark: bool
     text: str
-    columns: str
 
 
 def lines_of(driver, mode, asked):
@@ -36,8 +33,10 @@ def answers(driver, questions):
     every = sorted(set(questions))
     asked = "".join(f"{question}\n" for question in every)
     known = {}
-    for question, columns, text in zip(every, lines_of(driver, [], asked), lines_of(driver, ["text"], asked), strict=True):
-        if columns[QUESTION_COLUMNS] != str(question) or not text.startswith(f"{question.address:016x} {question.word:08x} "):
+    for question, line, text in zip(every, lines_of(driver, [], asked), lines_of(driver, ["text"], asked), strict=True):
+        asked_back, _, packed = line.rpartition(" ")
+        if asked_back != str(question) or not text.startswith(f"{question.address:016x} {question.word:08x} "):
             raise ValueError(f"the driver answers another question than {question}")
-        known[question] = Answer(int(columns[NUMBER_COLUMN]), columns[MARK_COLUMN] == "1", text[TEXT_COLUMN:], columns)
+        answer = record.unpacked(bytes.fromhex(packed))
+        known[question] = Answer(answer.number, bool(answer.marks & record.MARK), text[TEXT_COLUMN:])
     return known.__getitem__

@@ -1,4 +1,4 @@
-"""The section file: whether it is good, and what stands in it. Written from document 01, `Section file` and `Numbers`."""
+"""The section file: whether it is good, and what is in it. Written from document 01, `Section file` and `Numbers`."""
 import struct
 from dataclasses import dataclass
 
@@ -47,10 +47,12 @@ def header_is_good(file):
 
 
 def records_are_good(file):
-    """Bodies lie after the records and one after the other, so that none overlaps and offsets rise, and inside the file."""
+    """Bodies are after the records and inside the file, one after the other: none overlaps, and offsets rise."""
     free_from = records_end(file)
     for section in sections(file):
-        if section.length < WORD_BYTES or section.length % WORD_BYTES or section.offset < free_from or section.end > len(file):
+        if section.length < WORD_BYTES or section.length % WORD_BYTES:
+            return False
+        if section.offset < free_from or section.end > len(file):
             return False
         free_from = section.end
     return True

@@ -2,7 +2,7 @@
 //! one by one seldom make a reading at all; these can all be packed. Most of them are
 //! no word's.
 
-use crate::answer::{EffectColumns, Slot, OPERAND_SLOTS};
+use crate::answer::{EffectParts, Slot, OPERAND_SLOTS};
 use crate::mips::{Effect, Insn, Op};
 use crate::model::Flow;
 use crate::smallest::is_same;
@@ -39,7 +39,7 @@ fn operands_like(op: &Op) -> [Op; 6] {
 
 /// Every kind of effect with the same registers, value and size.
 fn effects_like(effect: Effect) -> [Effect; 5] {
-    let parts = EffectColumns::of(effect);
+    let parts = EffectParts::of(effect);
     let (first, second, value) = (parts.first, parts.second, parts.value);
     [
         Effect::None,

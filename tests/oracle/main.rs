@@ -1,15 +1,14 @@
 //! Driver around the unchanged Rust decoder, for comparing the project with it.
 //!
-//! Without an argument it answers the questions on standard input in columns;
-//! `text` answers them in listing lines; `vectors` prints the kept list, and
-//! `many` as many answers as it is told to. `smallest-vectors` and `smallest` do
-//! the same with the smallest word of the same reading for an answer, and `back` does it
-//! for the questions on standard input. `records` writes questions to the library for C
-//! in binary frames, with the answers to them.
+//! Without an argument it answers the questions on standard input with records; `text`
+//! answers them in listing lines, and `back` with the smallest word of the same reading.
+//! `vectors` prints the kept answers. `records` writes questions to the library for C in
+//! binary frames, with the answers to them.
 
 mod damage;
 mod find;
 mod input;
+mod line;
 mod records;
 #[path = "shared.rs"]
 mod shared;
@@ -21,8 +20,7 @@ use std::process::exit;
 
 use shared::{answer, many, mips, model, record, smallest, vectors};
 
-const USAGE: &str =
-    "usage: oracle [text | back | vectors | smallest-vectors | (many | smallest | records) COUNT SEED]";
+const USAGE: &str = "usage: oracle [text | back | vectors | records COUNT SEED]";
 const STATUS_FAILED: i32 = 1;
 const STATUS_USAGE: i32 = 2;
 
@@ -31,35 +29,26 @@ const STATUS_USAGE: i32 = 2;
 const BUFFER_BYTES: usize = 1 << 16;
 
 enum Mode {
-    Columns,
+    Answers,
     Text,
     Back,
     Vectors,
-    Many { count: usize, seed: u64 },
-    SmallestVectors,
-    Smallest { count: usize, seed: u64 },
     Records { count: usize, seed: u64 },
 }
 
-fn counted_mode(name: &str, count: &str, seed: &str) -> Option<Mode> {
+fn records_mode(count: &str, seed: &str) -> Option<Mode> {
     let count = count.parse().ok()?;
     let seed = seed.parse().ok()?;
-    match name {
-        "many" => Some(Mode::Many { count, seed }),
-        "smallest" => Some(Mode::Smallest { count, seed }),
-        "records" => Some(Mode::Records { count, seed }),
-        _ => None,
-    }
+    Some(Mode::Records { count, seed })
 }
 
 fn mode_of(arguments: &[String]) -> Option<Mode> {
     match arguments {
-        [] => Some(Mode::Columns),
+        [] => Some(Mode::Answers),
         [one] if one == "text" => Some(Mode::Text),
         [one] if one == "back" => Some(Mode::Back),
         [one] if one == "vectors" => Some(Mode::Vectors),
-        [one] if one == "smallest-vectors" => Some(Mode::SmallestVectors),
-        [name, count, seed] => counted_mode(name, count, seed),
+        [one, count, seed] if one == "records" => records_mode(count, seed),
         _ => None,
     }
 }
@@ -67,22 +56,12 @@ fn mode_of(arguments: &[String]) -> Option<Mode> {
 fn run(mode: Mode, out: &mut impl Write) -> io::Result<()> {
     let input = io::BufReader::with_capacity(BUFFER_BYTES, io::stdin());
     match mode {
-        Mode::Columns => input::for_each_ask(input, |ask| answer::write_answer(out, ask)),
+        Mode::Answers => input::for_each_ask(input, |ask| line::write_answer(out, ask)),
         Mode::Text => input::for_each_ask(input, |ask| text::write_text(out, ask)),
-        Mode::Back => input::for_each_ask(input, |ask| smallest::write_smallest(out, ask)),
+        Mode::Back => input::for_each_ask(input, |ask| line::write_smallest(out, ask)),
         Mode::Vectors => vectors::list()
             .iter()
-            .try_for_each(|ask| answer::write_answer(out, ask)),
-        Mode::Many { count, seed } => many::asks(seed)
-            .take(count)
-            .try_for_each(|ask| answer::write_answer(out, &ask)),
-        Mode::SmallestVectors => smallest::list()
-            .iter()
-            .try_for_each(|ask| smallest::write_smallest(out, ask)),
-        Mode::Smallest { count, seed } => many::asks(seed)
-            .filter(answer::Ask::is_accepted)
-            .take(count)
-            .try_for_each(|ask| smallest::write_smallest(out, &ask)),
+            .try_for_each(|ask| line::write_kept(out, ask)),
         Mode::Records { count, seed } => records::write_frames(out, count, seed),
     }
 }

@@ -5,7 +5,7 @@
 //! `include/calmuredda.h`; the library's own packing is not looked at. Numbers are
 //! little-endian, negative ones are two's complement, and whatever is absent is zero.
 
-use crate::answer::{refusal_number, Ask, EffectColumns, Slot, OPERAND_SLOTS};
+use crate::answer::{refusal_number, Ask, EffectParts, Slot, OPERAND_SLOTS};
 use crate::mips::{decode, Effect, Insn, Op};
 use crate::model::Flow;
 
@@ -48,12 +48,12 @@ pub const SHORT_RECORD: u8 = 16;
 pub const NO_WORD: u64 = 9 << 32;
 pub const NO_RECORD: u64 = (SHORT_RECORD as u64) << 32;
 
-/// Where the kind of operand `n` stands.
+/// Where the kind of operand `n` is.
 pub fn kind_of(n: usize) -> usize {
     OPERANDS + n * OPERAND_BYTES + KIND_OF_OPERAND
 }
 
-/// Where the register of operand `n` stands.
+/// Where the register of operand `n` is.
 pub fn register_of(n: usize) -> usize {
     OPERANDS + n * OPERAND_BYTES + REGISTER_OF_OPERAND
 }
@@ -94,7 +94,7 @@ fn number_at(bytes: &[u8], at: usize) -> u64 {
 }
 
 fn put_effect(record: &mut Record, effect: Effect) {
-    let effect = EffectColumns::of(effect);
+    let effect = EffectParts::of(effect);
     record[EFFECT] = effect.kind;
     record[FIRST] = effect.first;
     record[SECOND] = effect.second;

@@ -36,13 +36,13 @@ const END: u8 = b'z';
 /// Numbers that mean a flag which is on.
 const ON: [u8; 3] = [1, 2, 255];
 
-/// A slice has up to so many bytes after its word, which are not looked at.
+/// A slice has up to this many bytes after its word, which are not looked at.
 const MOST_AFTER_WORD: u32 = 4;
 
-/// One word in so many is also asked with slices that end before it does.
+/// One word in this many is also asked with slices that end before it does.
 const SHORT_EVERY: usize = 64;
 
-/// One record in so many is cut to each length; the others are only made longer.
+/// One record in this many is cut to each length; the others are only made longer.
 const CUT_EVERY: usize = 16;
 
 const REGISTERS: u32 = 32;
@@ -319,8 +319,8 @@ fn add_jobs(jobs: &mut Vec<Job>, asks: &[Ask], of_job: usize, damaged: bool) {
     }));
 }
 
-/// The kept lists come first, then damage to the records of the second one, whose
-/// words are all accepted, then COUNT generated words.
+/// The kept words come first, then the accepted words of every place and damage to their
+/// records, then COUNT generated words.
 fn jobs(count: usize, seed: u64) -> Vec<Job> {
     let mut jobs = Vec::new();
     let accepted = smallest::list();

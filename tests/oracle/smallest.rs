@@ -7,7 +7,6 @@
 //! place, until there is none.
 
 use std::collections::BTreeSet;
-use std::io::{self, Write};
 
 use crate::answer::Ask;
 use crate::mips::Insn;
@@ -21,17 +20,17 @@ const SINGLE: &[Field] = &[RS, RT, RD, SA, FUNCT];
 /// under two ops, and then another field chooses it.
 const BESIDE_OP: &[Field] = &[RT, FUNCT, RS];
 
-/// Where the generator of the kept list starts.
+/// Where the generator of the list starts.
 const SEED: u64 = 0x736d_616c_6c65_7374;
 
-/// How many words of a place the kept list has.
+/// How many words of a place the list has.
 const WORDS_OF_PLACE: usize = 4;
 
 /// How often a place is sampled for them. Where a place has accepted words at
 /// all, one word in 25 or more is accepted.
 const TRIES: u64 = 256;
 
-/// Are the two readings one? The published `Insn` has no such comparison. The
+/// Are the two readings equal? The published `Insn` has no such comparison. The
 /// cheap parts come first: nearly all comparisons end there.
 pub fn is_same(a: &Insn, b: &Insn) -> bool {
     a.effect == b.effect
@@ -115,22 +114,7 @@ pub fn lowest_fields(ask: &Ask) -> Option<u32> {
     search_of(ask).map(|search| search.with_low_fields(ask.word))
 }
 
-/// Writes the question and the smallest word with the answer's reading as one
-/// line; nothing for a refused word.
-pub fn write_smallest(out: &mut impl Write, ask: &Ask) -> io::Result<()> {
-    let smallest = match smallest_word(ask) {
-        Some(word) => word,
-        None => return Ok(()),
-    };
-    let flag = ask.wide as u8;
-    writeln!(
-        out,
-        "{flag} {:016x} {:08x} {smallest:08x}",
-        ask.va, ask.word
-    )
-}
-
-/// The questions of the kept list, sorted by word, then address, then flag. The
+/// Accepted words of every place that has any, sorted by word, then address, then flag. The
 /// flag takes turns, so that a place without refused words has both.
 pub fn list() -> Vec<Ask> {
     let mut random = Random::new(SEED);

@@ -1,9 +1,9 @@
-//! The fixed list of questions behind `tests/vectors/decode.txt`.
+//! The fixed list of questions behind `tests/vectors/answers.txt`.
 //!
 //! The list is a table of places to sample, not of words: each row fixes the
 //! fields that make a place, and a small generator with a fixed seed fills the
 //! rest, so fields that the decoder does not read are filled as well. `many.rs`
-//! samples the same places at scale, and `smallest.rs` for the encoder.
+//! samples the same places at scale, and `smallest.rs` the accepted words of each.
 
 use std::collections::BTreeSet;
 
@@ -54,7 +54,7 @@ const COP1: u32 = 17;
 const SPECIAL2: u32 = 28;
 const SPECIAL3: u32 = 31;
 
-/// The fields that make a place, each with the value it is held to.
+/// The fields that make a place, each with its value.
 type Fixed = &'static [(Field, u32)];
 
 /// A place where one field runs through all its values, `each` samples for
@@ -304,7 +304,7 @@ impl Random {
         (self.next() >> 32) as u32
     }
 
-    /// What stands in the free fields of a place's nth sample: all zeros and
+    /// What is in the free fields of a place's nth sample: all zeros and
     /// all ones once each, since those are the limits, else anything.
     pub fn filling(&mut self, sample: u64) -> u32 {
         match sample {

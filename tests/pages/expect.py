@@ -1,9 +1,9 @@
 #!/usr/bin/env python3
-"""What the library has to answer about blocks, pages and lines, by the model (tests/model) and the Rust.
+"""What the library must answer about blocks, pages and lines, by the model (tests/model) and the Rust.
 
     expect.py ROOT DRIVER > expected.txt
 
-The file is kept beside this one and read by pages.c, after README.md. DRIVER is that of tests/oracle.
+The file is kept beside this one and read by pages.c; README.md says what is in it. DRIVER is that of tests/oracle.
 """
 import itertools
 import re
@@ -20,7 +20,7 @@ from cases import EXAMPLE_ADDRESS, EXAMPLE_WORDS, packed, real_words  # noqa: E4
 from listing import Body  # noqa: E402
 from record import ADDR, COP0, FREG, IMM, MEM, REG, Operand, Record  # noqa: E402
 from splitmix import Splitmix  # noqa: E402
-from vectors import accepted, names_of, question  # noqa: E402
+from vectors import accepted, names_of  # noqa: E402
 
 SEED = 20261115
 TOP64 = 2**64
@@ -30,6 +30,8 @@ ANSWERS_PER_BODY = 60
 LONGEST_BUFFER = 200
 LONGEST_RUN = 5
 REAL_WORDS = 300
+# The mnemonics whose records are changed byte by byte.
+FEW_NAMES = (b"ext", b"jal", b"sw", b"lui", b"beq", b"mtc0", b"madd.s", b"bc1f", b"addiu")
 
 PLAIN, MARK, REFUSED = 0x24020005, 0x1000FFFF, 0x7C000001
 
@@ -49,11 +51,11 @@ def runs():
             yield Body(packed(words, big) + bytes([0x24] * (k % 4)), 0x80001000, big, wide)
 
 
-def class_bodies(lines):
+def class_bodies(kept):
     """A word of each mnemonic and flow, with a nop after it, under either flag and byte order."""
     first = {}
-    for line in lines:
-        first.setdefault((line[170:], line[30]), int(line[19:27], 16))
+    for each in kept:
+        first.setdefault((each.name, record.unpacked(each.record).flow), each.question.word)
     words = [word for each in first.values() for word in (each, 0)]
     for flags in range(4):
         big, wide = bool(flags & 1), bool(flags & 2)
@@ -61,9 +63,11 @@ def class_bodies(lines):
 
 
 def end_bodies():
-    """What ends no block, and what does: eret, break, syscall and trap against every kind of mark; refusals of every number."""
+    """What does not end a block, and what does: eret, break, syscall and traps beside every kind of mark; refusals of
+    every number."""
     plain = (0x42000018, 0x0000000D, 0x0000000C, 0x00000034, 0x42000020, 0x0000000F)
-    marks = (0x03E00008, 0x00800008, 0x0080F809, 0x08000000, 0x0C000000, 0x04110001, 0x04100001, 0x45000001, 0x50000001, 0x10000001)
+    marks = (0x03E00008, 0x00800008, 0x0080F809, 0x08000000, 0x0C000000)
+    marks += (0x04110001, 0x04100001, 0x45000001, 0x50000001, 0x10000001)
     refused = (0x4C000000, 0x00000001, 0x04040000, 0x40200000, 0x44600000, 0x70000003, 0x7C000001)
     yield Body(packed(plain), TOP64 - 8, False, False)
     yield Body(packed(marks), TOP64 - 8, False, True)
@@ -95,8 +99,10 @@ def page_bodies(real):
     yield Body(packed((0,)) + b"\x24", TOP64 - 1, False, True)
     # Short lines, refused ones of every number, and long ones; addresses that pass 2^64.
     yield Body(packed((0, 0x40, 0x0000000F, 0x42000018)) + b"\0\0\0", 0xFFFFFFFF00000000, False, False)
-    yield Body(packed((0x4C000000, 0x00000001, 0x04040000, 0x40200000, 0x44600000, 0x70000003, 0x7C000001), big=True), TOP64 - 8, True, True)
-    yield Body(packed((0x7C821944, 0x5483FFFF, 0x4620000D, 0x0080102D, 0xD7BF8000, 0x0C000001, 0x03E0F809)) + b"\0\0", TOP64 - 12, False, False)
+    refused = (0x4C000000, 0x00000001, 0x04040000, 0x40200000, 0x44600000, 0x70000003, 0x7C000001)
+    yield Body(packed(refused, big=True), TOP64 - 8, True, True)
+    long = (0x7C821944, 0x5483FFFF, 0x4620000D, 0x0080102D, 0xD7BF8000, 0x0C000001, 0x03E0F809)
+    yield Body(packed(long) + b"\0\0", TOP64 - 12, False, False)
     yield Body(packed((0x0080102D, 0x7C0003C4)), 3, False, True)
     yield Body(packed(real), 0x9800000000100000, False, True)
 
@@ -105,7 +111,7 @@ def write_pages(body, read, random):
     print("pages", *fields(body))
     for n in range(len(body)):
         print("text", listing.line(body, n, read).decode(), end="")
-    # Some answers of the model itself, against which the loops of pages.c are held.
+    # Some answers of the model itself, with which the loops of pages.c are compared.
     for _ in range(ANSWERS_PER_BODY):
         index = random.below(len(body) + 2) if random.below(8) else random.choose(HUGE)
         size = random.below(LONGEST_BUFFER + 1)
@@ -118,7 +124,8 @@ def write_pages(body, read, random):
 
 
 def values(random):
-    return random.choose((0, 1, 9, 10, 99, 2**15, 2**31, 2**63 - 1, 2**63, 2**63 + 1, TOP64 - 1, TOP64 - 10, 10**19, random.next(), random.next() >> random.below(64)))
+    ends = (0, 1, 9, 10, 99, 2**15, 2**31, 2**63 - 1, 2**63, 2**63 + 1, TOP64 - 1, TOP64 - 10, 10**19)
+    return random.choose((*ends, random.next(), random.next() >> random.below(64)))
 
 
 def any_operand(random):
@@ -134,7 +141,7 @@ def any_effect(random):
 
 
 def any_reading(random, names):
-    """One that no word has, as a rule: the printer does not ask for that."""
+    """One that most often no word has: the printer takes any reading."""
     operands = [any_operand(random) for _ in range(random.below(5))]
     marks = random.below(4)
     target = random.next() if marks & record.HAS_TARGET else 0
@@ -158,7 +165,8 @@ def operand_records():
     for slot in range(4):
         for count in range(6):
             for register in (31, 32):
-                operands = [Operand(REG, register if k == slot else 0, 0) if k < count else Operand(0, register if k == slot else 0, 0) for k in range(4)]
+                kinds = [REG if k < count else 0 for k in range(4)]
+                operands = [Operand(kind, register if k == slot else 0, 0) for k, kind in enumerate(kinds)]
                 yield Record(b"addu", count=count, operands=operands)
 
 
@@ -184,7 +192,8 @@ def part_records():
     for kind in (0, 1, 2, 3, 4, 5, 255):
         for parts in itertools.product((0, 200), (0, 32), (0, 9), (0, 2**40)):
             yield Record(b"nop", effect=(kind, *parts))
-    for name in (b"", b"no", b"nopp", b"NOP", b"nop ", b"nop\0p", b"\0nop", b"trunc.w.", b"trunc.w.s\0\0\0\0\0\0s", b"\xff" * 16, b"sll", b"add.w", b"li"):
+    near = (b"", b"no", b"nopp", b"NOP", b"nop ", b"nop\0p", b"\0nop", b"trunc.w.", b"trunc.w.s\0\0\0\0\0\0s")
+    for name in (*near, b"\xff" * 16, b"sll", b"add.w", b"li"):
         yield Record(name)
 
 
@@ -197,10 +206,9 @@ def changed_bytes(bases, random):
             yield bytes(data)
 
 
-def records(lines, random):
-    names = sorted(names_of(lines))
-    bases = [record.of_columns(line).packed() for line in lines]
-    few = [base for base, line in zip(bases, lines) if line[170:] in ("ext", "jal", "sw", "lui", "beq", "mtc0", "madd.s", "bc1f", "addiu")]
+def records(kept, random):
+    names = sorted(names_of(kept))
+    few = [each.record for each in kept if each.name in FEW_NAMES]
     yield longest().packed()
     for each in itertools.chain(operand_records(), count_records(), part_records()):
         yield each.packed()
@@ -223,19 +231,19 @@ def answer_line(number, text):
     return f"{number} {text}".rstrip()
 
 
-def check_lines(lines, read):
+def check_lines(kept, read):
     """The model's lines are those of the Rust; inputs.py makes them without it."""
-    names = names_of(lines)
-    for line in lines:
-        text = record.line(record.of_columns(line).packed(), names)[1]
-        if text != read(question(line)).text:
-            sys.exit(f"the model prints {text!r}, the Rust {read(question(line)).text!r}")
+    names = names_of(kept)
+    for each in kept:
+        text = record.line(each.record, names)[1]
+        if text != read(each.question).text:
+            sys.exit(f"the model prints {text!r}, the Rust {read(each.question).text!r}")
 
 
-def write_lines(lines, random):
-    names = names_of(lines)
+def write_lines(kept, random):
+    names = names_of(kept)
     known = set()
-    for data in records(lines, random):
+    for data in records(kept, random):
         if data not in known:
             known.add(data)
             print(f"line {short(data)} {answer_line(*record.line(data, names))}")
@@ -243,17 +251,17 @@ def write_lines(lines, random):
 
 def main():
     random = Splitmix(SEED)
-    lines = accepted(ROOT)
-    block_bodies = [*runs(), *class_bodies(lines), *end_bodies()]
+    kept = accepted(ROOT)
+    block_bodies = [*runs(), *class_bodies(kept), *end_bodies()]
     page_list = list(page_bodies(real_words(ROOT)[:REAL_WORDS]))
     asked = [each for body in block_bodies + page_list for each in body.questions()]
-    read = rust.answers(DRIVER, asked + [question(line) for line in lines])
-    check_lines(lines, read)
+    read = rust.answers(DRIVER, asked + [each.question for each in kept])
+    check_lines(kept, read)
     for body in block_bodies + page_list:
         write_blocks(body, read)
     for body in page_list:
         write_pages(body, read, random)
-    write_lines(lines, random)
+    write_lines(kept, random)
 
 
 main()

@@ -1,10 +1,10 @@
 #!/usr/bin/env python3
-"""What pages.c reads beside expected.txt, made of lists that are kept elsewhere.
+"""What pages.c reads besides expected.txt, made of lists that are kept elsewhere.
 
     inputs.py ROOT
 
-writes a line `word` for each answer of tests/vectors/decode.txt, with its printed line, and a line `file` for each section file of
-tests/sweep, with what tests/sweep/expected.txt says of it and of its listing.
+writes a line `word` for each answer of tests/vectors/answers.txt, with its printed line, and a line `file` for each
+section file of tests/sweep, with what tests/sweep/expected.txt says of it and of its listing.
 """
 import sys
 from pathlib import Path
@@ -20,10 +20,9 @@ from cases import cases  # noqa: E402
 
 def write_words():
     names = vectors.names_of(vectors.accepted(ROOT))
-    for line in vectors.answer_lines(ROOT):
-        number = int(line[vectors.NUMBER_COLUMN])
-        text = "" if number else record.line(record.of_columns(line).packed(), names)[1]
-        print(f"word {vectors.question(line)} {number} {text}".rstrip())
+    for each in vectors.answers(ROOT):
+        text = "" if each.number else record.line(each.record, names)[1]
+        print(f"word {each.question} {each.number} {text}".rstrip())
 
 
 def write_files():

@@ -1,13 +1,13 @@
 /* Compares the library's section files, their listings, blocks, pages and lines with the answers on standard input, a
-   line each; README.md says what is in them. What a call writes to lies, in every second call, up to the end of what
-   can be touched. */
+   line each; README.md says what is in them. In every second call, the buffer for its answer ends where what can be
+   touched ends. */
 #define _GNU_SOURCE
 #include "../lent.h"
 #include "../splitmix.h"
 #include "calmuredda.h"
 #include "sha256.h"
 
-/* Once more, so that a header which says otherwise does not compile. */
+/* Declared once more, so that a header which declares otherwise does not compile. */
 uint8_t calmuredda_line(const uint8_t *record, size_t record_len, uint8_t *out, size_t out_len, size_t *length);
 uint8_t calmuredda_section_check(const uint8_t *file, size_t file_len);
 size_t calmuredda_section_count(const uint8_t *file, size_t file_len);
@@ -35,11 +35,11 @@ enum {
     LONGEST_LINE = 120,
     LONGEST_SMALL_BUFFER = 200, /* every size up to this one is tried */
     LONGEST_BUFFER = 5000,
-    SMALL_BODY = 12,            /* as many words have every index tried in every such buffer */
+    SMALL_BODY = 12,            /* up to this many words, every index is tried in every such buffer */
     RANDOM_PAGES = 20000,
-    SMALL_LISTING = 16,         /* as many lines have every cursor tried in every such buffer */
+    SMALL_LISTING = 16,         /* up to this many lines, every cursor is tried in every such buffer */
     RANDOM_PIECES = 1000,
-    LAST_LINE_EVERY = 200,      /* it is the one that all words are read for */
+    LAST_LINE_EVERY = 200,      /* seldom, since all words are read for it */
     WINDOW = 4096,
     LONGEST_WINDOW = 1 << 16,
     MOST_LINES = (1 << 16) / WORD_BYTES + MOST_SECTIONS + 1,
@@ -50,11 +50,14 @@ enum {
     MOST_COMPLAINTS = 5
 };
 
-/* What the header's names stand for in document 01. */
+/* What the header's names mean in document 01. */
 _Static_assert(CALMUREDDA_NO_WORD == 9 && CALMUREDDA_NO_LINE == 10 && CALMUREDDA_NO_ROOM == 11, "numbers of lines");
-_Static_assert(CALMUREDDA_BAD_HEADER == 12 && CALMUREDDA_BAD_RECORD == 13 && CALMUREDDA_NO_SECTION == 14, "numbers of files");
+_Static_assert(CALMUREDDA_BAD_HEADER == 12 && CALMUREDDA_BAD_RECORD == 13 && CALMUREDDA_NO_SECTION == 14,
+               "numbers of files");
 _Static_assert(CALMUREDDA_NO_INDEX == 15 && CALMUREDDA_SHORT_RECORD == 16, "numbers of bodies and records");
-_Static_assert(CALMUREDDA_END_SLOT == 1 && CALMUREDDA_END_NO_SLOT == 2 && CALMUREDDA_END_REFUSED == 3 && CALMUREDDA_END_BODY == 4, "kinds");
+_Static_assert(CALMUREDDA_END_SLOT == 1 && CALMUREDDA_END_NO_SLOT == 2 && CALMUREDDA_END_REFUSED == 3 &&
+                   CALMUREDDA_END_BODY == 4,
+               "kinds");
 _Static_assert(CALMUREDDA_BIG_ENDIAN == 1 && CALMUREDDA_WIDE == 2, "flags");
 _Static_assert(CALMUREDDA_LINE_BYTES == 120 && CALMUREDDA_PAGE_LINE_BYTES == 147, "the longest lines");
 
@@ -89,7 +92,7 @@ static void complain(const char *what, uint64_t got, uint64_t wanted)
     printf("line %" PRIu64 ": %s %" PRIu64 ", wanted %" PRIu64 "\n", asked_so_far, what, got, wanted);
     complaints++;
     if (complaints == MOST_COMPLAINTS) {
-        printf("no more lines are looked at\n");
+        printf("the other lines are not compared\n");
         exit(EXIT_FAILURE);
     }
 }
@@ -108,7 +111,8 @@ static uint8_t wanted_area[AREA_BYTES];
 
 static void make_area(void)
 {
-    area = mmap(between_walls(AREA_BYTES), AREA_BYTES, PROT_READ | PROT_WRITE, MAP_PRIVATE | MAP_ANONYMOUS | MAP_FIXED, -1, 0);
+    area = mmap(between_walls(AREA_BYTES), AREA_BYTES, PROT_READ | PROT_WRITE,
+                MAP_PRIVATE | MAP_ANONYMOUS | MAP_FIXED, -1, 0);
     need(area != MAP_FAILED, "mmap");
 }
 
@@ -137,7 +141,7 @@ static struct buffer lend_buffer(size_t size)
     return buffer;
 }
 
-/* The buffer holds the text at that place, and nothing else has changed. */
+/* The buffer has the text at that place, and nothing else has changed. */
 static void check_buffer(const struct buffer *buffer, size_t place, const uint8_t *text, size_t length)
 {
     size_t size = buffer->last - buffer->first;
@@ -152,7 +156,8 @@ static void check_buffer(const struct buffer *buffer, size_t place, const uint8_
         if (area[buffer->first + i] != wanted_area[i]) {
             char what[100];
             ptrdiff_t at = (ptrdiff_t)(buffer->first + i) - (ptrdiff_t)buffer->start;
-            snprintf(what, sizeof what, "in a buffer of %zu bytes, from place %zu on, offset %td is", buffer->size, place, at);
+            snprintf(what, sizeof what, "in a buffer of %zu bytes, from place %zu on, offset %td is", buffer->size,
+                     place, at);
             complain(what, area[buffer->first + i], wanted_area[i]);
             return;
         }
@@ -187,7 +192,7 @@ static uint64_t number_in(const char *text, int base, char **end)
 {
     uint64_t value = strtoull(text, end, base);
     if (*end == text) {
-        malformed("no number");
+        malformed("not a number");
     }
     return value;
 }
@@ -197,7 +202,7 @@ static uint64_t number_column(int base)
     char *end;
     uint64_t value = number_in(column(), base, &end);
     if (*end != '\0') {
-        malformed("no number");
+        malformed("not a number");
     }
     return value;
 }
@@ -208,7 +213,7 @@ static int digit(char c)
         return c - '0';
     }
     if (c < 'a' || c > 'f') {
-        malformed("no hex digit");
+        malformed("not a hex digit");
     }
     return c - 'a' + 10;
 }
@@ -247,7 +252,7 @@ static struct {
     uint8_t bytes[MOST_WORDS * WORD_BYTES];
     size_t length;
     size_t words;
-    size_t texts;                             /* as many lines have been read */
+    size_t texts;                             /* how many lines have been read */
     size_t starts[MOST_WORDS + 1];            /* where each line begins in `text` */
     uint8_t text[MOST_WORDS * LONGEST_TEXT];
 } body;
@@ -281,7 +286,8 @@ static void check_block(size_t index, struct answer wanted)
     for (int twice = 0; twice < 2; twice++) {
         uint8_t kind = 99;
         size_t words = 99;
-        uint8_t number = calmuredda_block(lend(body.bytes, body.length), body.length, body.va, flags(), index, &kind, &words);
+        uint8_t number =
+            calmuredda_block(lend(body.bytes, body.length), body.length, body.va, flags(), index, &kind, &words);
         calls++;
         same("a block's number is", number, wanted.number);
         same("a block's end kind is", kind, wanted.kind);
@@ -324,7 +330,7 @@ static void blocks_line(void)
 
 /* ── pages ── */
 
-/* What is wanted of a page, of the rule: the longest run of whole lines that fits. */
+/* What is wanted of a page, by the rule: the longest run of whole lines that fits. */
 static uint8_t wanted_page(size_t index, size_t size, size_t place, size_t *words, size_t *bytes)
 {
     size_t room = place > size ? 0 : size - place;
@@ -404,7 +410,7 @@ static void try_pages(void)
     }
 }
 
-/* `pages`: a body; as many lines `text` follow as it has words. */
+/* `pages`: a body; it is followed by as many lines `text` as it has words. */
 static void pages_line(void)
 {
     read_body();
@@ -489,7 +495,7 @@ static void line_line(void)
 {
     uint8_t record[CALMUREDDA_RECORD_BYTES];
     if (bytes_column(record, sizeof record) != sizeof record) {
-        malformed("no record");
+        malformed("not a record");
     }
     uint8_t number = (uint8_t)number_column(10);
     check_rooms(record, number, last_column());
@@ -600,7 +606,7 @@ static struct {
     size_t first[MOST_SECTIONS + 2]; /* which line of all is the first of each section */
 } listing;
 
-/* A section has a line more than words; in the place of one more section is the last line of all. */
+/* A section has one line more than it has words; the last line of all is in the place of one more section. */
 static void number_lines(void)
 {
     listing.first[0] = 0;
@@ -625,7 +631,7 @@ static void take_text(const char *shown)
 {
     listing.length = strlen(shown) - 2;
     if (listing.length > sizeof listing.text || shown[listing.length + 1] != ']') {
-        malformed("no listing");
+        malformed("not a listing");
     }
     for (size_t i = 0; i < listing.length; i++) {
         listing.text[i] = (uint8_t)(shown[i + 1] == '|' ? '\n' : shown[i + 1]);
@@ -644,7 +650,7 @@ static void gather_text(const uint8_t *bytes)
     } while (got > 0 && got <= WINDOW && listing.length + WINDOW <= sizeof listing.text);
 }
 
-/* Where only the digest of the listing is known it says that the library writes the right one. */
+/* Where only the digest of the listing is known, it shows that the library writes the right one. */
 static int find_text(const uint8_t *bytes, const char *shown)
 {
     uint8_t digest[SHA256_BYTES];
@@ -654,7 +660,7 @@ static int find_text(const uint8_t *bytes, const char *shown)
         return 1;
     }
     if (strlen(shown) != 2 * SHA256_BYTES) {
-        malformed("no digest");
+        malformed("not a digest");
     }
     gather_text(bytes);
     sha256(listing.text, listing.length, digest);
@@ -679,7 +685,7 @@ static void split_text(void)
     }
 }
 
-/* What a call answers, and where in the listing the lines stand that it writes. */
+/* What a call answers, and where in the listing the lines are that it writes. */
 struct piece {
     uint8_t number;
     size_t bytes;
@@ -687,7 +693,7 @@ struct piece {
     const uint8_t *text;
 };
 
-/* What is wanted of a piece, of the rule: the longest run of whole lines of the section that fits. */
+/* What is wanted of a piece, by the rule: the longest run of whole lines of the section that fits. */
 static struct piece wanted_piece(struct cursor at, size_t room)
 {
     struct piece piece = {.next = at, .text = listing.text};
@@ -727,7 +733,7 @@ static struct piece check_piece(const uint8_t *bytes, struct cursor at, size_t r
     return got;
 }
 
-/* All pieces from the start on, put together; there are no more of them than lines, and then one that has no bytes. */
+/* All pieces from the start on, put together: at most as many as there are lines, and then one without bytes. */
 static void check_whole(const uint8_t *bytes, size_t room)
 {
     uint64_t complaints_before = complaints;
@@ -813,7 +819,7 @@ static void check_listing(const uint8_t *bytes)
     }
 }
 
-/* `file`: a section file and what is known of it. It lies once up to the end of what can be read, and once near its
+/* `file`: a section file and what is known of it. It is lent once at the end of what can be read, and once near its
    start. */
 static void file_line(void)
 {
@@ -834,11 +840,16 @@ static void file_line(void)
 /* ── document 01's example, whatever the input has ── */
 
 static const uint8_t scope_body[] = {
-    0x3c, 0x04, 0x80, 0x00, 0x0c, 0x00, 0x04, 0x03, 0x8c, 0x82, 0x00, 0x10, 0x03, 0xe0, 0x00, 0x08, 0x00, 0x00, 0x00, 0x00, 0x7c, 0x00, 0x00, 0x01,
+    0x3c, 0x04, 0x80, 0x00, 0x0c, 0x00, 0x04, 0x03, 0x8c, 0x82, 0x00, 0x10,
+    0x03, 0xe0, 0x00, 0x08, 0x00, 0x00, 0x00, 0x00, 0x7c, 0x00, 0x00, 0x01,
 };
 static const char *const scope_lines[] = {
-    "0000000080001000 3c048000 lui a0, 32768", "0000000080001004 0c000403 jal 0x8000100c", "0000000080001008 8c820010 lw v0, 16(a0)",
-    "000000008000100c 03e00008 jr ra",         "0000000080001010 00000000 nop",            "0000000080001014 7c000001 refused 8",
+    "0000000080001000 3c048000 lui a0, 32768",
+    "0000000080001004 0c000403 jal 0x8000100c",
+    "0000000080001008 8c820010 lw v0, 16(a0)",
+    "000000008000100c 03e00008 jr ra",
+    "0000000080001010 00000000 nop",
+    "0000000080001014 7c000001 refused 8",
 };
 enum { SCOPE_WORDS = sizeof scope_lines / sizeof scope_lines[0] };
 

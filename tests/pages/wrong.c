@@ -1,5 +1,5 @@
-/* Stands between the test and the library (the linker's --wrap) and makes one of the mistakes below, by the number in the
-   environment's MISTAKE: the test has to notice each. */
+/* Comes between the test and the library (the linker's --wrap) and makes one of the mistakes below, by the number in
+   the environment's MISTAKE: the test must notice each. */
 #include <stdint.h>
 #include <string.h>
 
@@ -10,7 +10,7 @@
 enum {
     BLOCK_INDEX_WRAPS = 1,     /* four times the index is taken modulo 2^64 */
     BLOCK_BIG_IS_ODD_BELOW_4,  /* off where a bit without a meaning is set */
-    BLOCK_SLOT_COUNTED,        /* that which is refused or absent */
+    BLOCK_SLOT_COUNTED,        /* a slot that is refused or absent */
     BLOCK_REFUSED_COUNTED,
     BLOCK_KIND_OF_REFUSAL,     /* not 0 where the index is refused */
     BLOCK_REST_IS_DROPPED,     /* the last word too, where bytes follow it */
@@ -36,7 +36,7 @@ enum {
     LINE_LENGTH_OF_REFUSAL,    /* not 0 */
     LINE_SHORT_IS_9,
     LINE_LONGER_IS_9,
-    LINE_ANY_EFFECT,           /* what the line does not show is not looked at */
+    LINE_ANY_EFFECT,           /* what the line does not show is not read */
     LINE_READS_AFTER_RECORD,
     SECTION_NUMBER_FIRST,      /* 14 before 12 and 13 */
     SECTION_NUMBER_WRAPS,      /* 16 times the number is taken modulo 2^64 */
@@ -80,7 +80,7 @@ static int is(int number)
     return mistake_up_to(LAST) == number;
 }
 
-/* Reads behind what is lent, or writes where only reading is lent. */
+/* Reads after what is lent, or writes what is lent for reading only. */
 static void read_after(const uint8_t *bytes, size_t length)
 {
     if (bytes != NULL) {
@@ -115,7 +115,8 @@ uint8_t __wrap_calmuredda_block(const uint8_t *body, size_t body_len, uint64_t v
     index = is(BLOCK_INDEX_WRAPS) ? wrapped(index, 2) : index;
     flags = is(BLOCK_BIG_IS_ODD_BELOW_4) && flags > 3 ? flags & CALMUREDDA_WIDE : flags;
     uint8_t number = __real_calmuredda_block(body, body_len, va, flags, index, kind, words);
-    *words += (is(BLOCK_SLOT_COUNTED) && *kind == CALMUREDDA_END_NO_SLOT) || (is(BLOCK_REFUSED_COUNTED) && *kind == CALMUREDDA_END_REFUSED);
+    *words += (is(BLOCK_SLOT_COUNTED) && *kind == CALMUREDDA_END_NO_SLOT) ||
+              (is(BLOCK_REFUSED_COUNTED) && *kind == CALMUREDDA_END_REFUSED);
     *kind += is(BLOCK_KIND_OF_REFUSAL) && number != 0;
     return number;
 }
@@ -165,7 +166,7 @@ uint8_t __wrap_calmuredda_page(const uint8_t *body, size_t body_len, uint64_t va
 
 /* ── lines ── */
 
-/* The call is made with another record: a mistake in what the library looks at. */
+/* The call is made with another record: a mistake in what the library reads. */
 static uint8_t line_of_other(const uint8_t *record, uint8_t *out, size_t out_len, size_t *length)
 {
     uint8_t copy[CALMUREDDA_RECORD_BYTES];
@@ -194,12 +195,14 @@ uint8_t __wrap_calmuredda_line(const uint8_t *record, size_t record_len, uint8_t
     if (is(LINE_ROOM_FIRST) && out_len == 0 && record_len >= CALMUREDDA_RECORD_BYTES) {
         return CALMUREDDA_NO_ROOM;
     }
-    if ((is(LINE_SHORT_IS_9) && record_len < CALMUREDDA_RECORD_BYTES) || (is(LINE_LONGER_IS_9) && record_len > CALMUREDDA_RECORD_BYTES)) {
+    if ((is(LINE_SHORT_IS_9) && record_len < CALMUREDDA_RECORD_BYTES) ||
+        (is(LINE_LONGER_IS_9) && record_len > CALMUREDDA_RECORD_BYTES)) {
         return CALMUREDDA_NO_WORD;
     }
     out_len -= is(LINE_LAST_BYTE_FREE) && out_len > 0;
-    uint8_t number = record_len < CALMUREDDA_RECORD_BYTES ? __real_calmuredda_line(record, record_len, out, out_len, length)
-                                                          : line_of_other(record, out, out_len, length);
+    uint8_t number = record_len < CALMUREDDA_RECORD_BYTES
+                         ? __real_calmuredda_line(record, record_len, out, out_len, length)
+                         : line_of_other(record, out, out_len, length);
     if (is(LINE_ENDS_WITH_ZERO) && number == 0 && *length < out_len) {
         out[*length] = 0;
     }
@@ -222,7 +225,8 @@ size_t __wrap_calmuredda_section_count(const uint8_t *file, size_t file_len)
 
 uint8_t __wrap_calmuredda_section_flags(const uint8_t *file, size_t file_len)
 {
-    return is(SECTION_FLAGS_OF_BAD_FILE) && file_len > FLAGS_AT ? file[FLAGS_AT] : __real_calmuredda_section_flags(file, file_len);
+    return is(SECTION_FLAGS_OF_BAD_FILE) && file_len > FLAGS_AT ? file[FLAGS_AT]
+                                                                : __real_calmuredda_section_flags(file, file_len);
 }
 
 uint64_t __wrap_calmuredda_section_address(const uint8_t *file, size_t file_len, size_t n)

@@ -1,10 +1,12 @@
-"""The section files that `sweep` and the library are tried on: `cases(root)` gives name and bytes of each, the same on every run.
+"""The section files that `sweep` and the library are tried on: `cases(root)` gives the name and the bytes of each, the
+same on every run.
 
 Files are made here from their fields, good or not, since tools/make_section makes good ones only.
 """
 import struct
 from pathlib import Path
 
+import vectors
 from splitmix import Splitmix
 
 SEED = 20261115
@@ -34,7 +36,9 @@ def packed(words, big=False):
 def file_of(records, rest, count=None, flags=0, total=None):
     """A file of records (address, offset, length) and the bytes after them; what is not given is as it should be."""
     length = HEADER_BYTES + RECORD_BYTES * len(records) + len(rest)
-    made = struct.pack("<HHI", len(records) if count is None else count, flags, (length if total is None else total) % TOP32)
+    count = len(records) if count is None else count
+    total = length if total is None else total
+    made = struct.pack("<HHI", count, flags, total % TOP32)
     return made + b"".join(struct.pack("<QII", *record) for record in records) + rest
 
 
@@ -64,16 +68,22 @@ def header_cases():
         yield f"count-{count}", one(count=count)
     for flags in (0, 1, 2, 3, 4, 5, 7, 8, 0x100, 0x101, 0x8000, 0xFFFF):
         yield f"flags-{flags:x}", one(flags=flags)
-    for total in (0, 1, 8, 24, ONE_END - 1, ONE_END + 1, ONE_END + 4, ONE_END << 8, ONE_END << 16, ONE_END << 24, ONE_END + 65536, 2**31, TOP32 - 1):
+    for total in (
+        0, 1, 8, 24, ONE_END - 1, ONE_END + 1, ONE_END + 4, ONE_END << 8, ONE_END << 16, ONE_END << 24, ONE_END + 65536,
+        2**31, TOP32 - 1,
+    ):  # fmt: skip
         yield f"total-{total:x}", one(total=total)
-    # 12 comes before 13, whatever the records hold.
+    # 12 comes before 13, whatever is in the records.
     yield "count-and-record", one(count=0, length=3)
     yield "flags-and-record", one(flags=4, offset=0)
     yield "total-and-record", one(total=ONE_END + 1, length=TOP32 - 4)
 
 
 def offset_cases():
-    for offset in (0, 1, 7, 8, 20, ONE_AT - 1, ONE_AT, ONE_AT + 1, ONE_AT + 4, ONE_END, TOP32 - 1, TOP32 - 4, 2**31, 0x100 + ONE_AT, 0x10000 + ONE_AT):
+    for offset in (
+        0, 1, 7, 8, 20, ONE_AT - 1, ONE_AT, ONE_AT + 1, ONE_AT + 4, ONE_END, TOP32 - 1, TOP32 - 4, 2**31,
+        0x100 + ONE_AT, 0x10000 + ONE_AT,
+    ):  # fmt: skip
         yield f"offset-{offset:x}", one(offset=offset)
         yield f"offset-{offset:x}-short", one(offset=offset, length=4)
     for offset, length in (
@@ -83,19 +93,24 @@ def offset_cases():
         yield f"part-{offset}-{length}", one(offset=offset, length=length)
     # Sums past 2^32 that come to a place inside the file.
     for offset, length in (
-        (TOP32 - 4, 8), (TOP32 - 4, 28), (TOP32 - 4, 52), (TOP32 - 8, 32), (TOP32 - 24, 48), (ONE_AT, TOP32 - 24), (ONE_AT, TOP32 - 20),
-        (2**31, 2**31), (2**31, 2**31 + 32),
+        (TOP32 - 4, 8), (TOP32 - 4, 28), (TOP32 - 4, 52), (TOP32 - 8, 32), (TOP32 - 24, 48),
+        (ONE_AT, TOP32 - 24), (ONE_AT, TOP32 - 20), (2**31, 2**31), (2**31, 2**31 + 32),
     ):  # fmt: skip
         yield f"wrapping-{offset:x}-{length:x}", one(offset=offset, length=length)
 
 
 def length_cases():
-    for length in (0, 1, 2, 3, 4, 5, 6, 7, 8, 20, 21, 22, 23, 24, 25, 26, 27, 28, 48, 256, 260, 0x10018, 2**31, 2**31 + 4, TOP32 - 4, TOP32 - 1):
+    for length in (
+        *range(9), *range(20, 29), 48, 256, 260, 0x10018, 2**31, 2**31 + 4, TOP32 - 4, TOP32 - 1,
+    ):  # fmt: skip
         yield f"length-{length:x}", one(length=length)
 
 
 def address_cases():
-    for address in (0, 1, 3, 0x0FFFFFF4, 0xFFFFFFFC, 2**32, 2**63 - 8, 2**63, TOP64 - 24, TOP64 - 23, TOP64 - 8, TOP64 - 4, TOP64 - 1):
+    for address in (
+        0, 1, 3, 0x0FFFFFF4, 0xFFFFFFFC, 2**32, 2**63 - 8, 2**63,
+        TOP64 - 24, TOP64 - 23, TOP64 - 8, TOP64 - 4, TOP64 - 1,
+    ):  # fmt: skip
         yield f"address-{address:x}", one(address=address)
 
 
@@ -161,13 +176,13 @@ def cut_cases():
     whole = two((40, 12), (52, 12))
     for length in range(LONGEST_CUT + 1):
         yield f"cut-{length}", whole[:length]
-        # With the total as it then is, so that the other rules show.
+        # With the total that it then has, so that the other rules show.
         fitted = whole[:4] + struct.pack("<I", length) + whole[8:]
         yield f"cut-fitted-{length}", fitted[:length]
 
 
 def long_cases():
-    words = packed([LOAD, BRANCH, REFUSED] * 5459)  # 65,508 bytes, as many as fit behind one record
+    words = packed([LOAD, BRANCH, REFUSED] * 5459)  # 65,508 bytes, as many as fit after one record
     for total in (MOST_BYTES - 3, MOST_BYTES, MOST_BYTES + 1, 70000):
         rest = (words + bytes(5000))[: total - ONE_AT]
         length = min(len(words), len(rest))
@@ -195,14 +210,15 @@ def many_cases():
     large = packed([LOAD, REFUSED] * 125)
     yield "sections-64-large", good([(TOP64 - 400 + k, large) for k in range(MOST_SECTIONS)], flags=2)
     end = HEADER_BYTES + RECORD_BYTES * MOST_SECTIONS
-    yield "sections-64-backwards", file_of([(k, end + 4 * (63 - k), 4) for k in range(MOST_SECTIONS)], packed([LOAD] * MOST_SECTIONS))
+    backwards = [(k, end + 4 * (63 - k), 4) for k in range(MOST_SECTIONS)]
+    yield "sections-64-backwards", file_of(backwards, packed([LOAD] * MOST_SECTIONS))
 
 
 # ── random damage ──
 
 
 def near(random, length):
-    """A number where a rule may turn."""
+    """A number near the limit of some rule."""
     base = random.choose((0, 4, 8, ONE_AT, TWO_AT, 52, length, 2**16, 2**31, TOP32))
     return (base + random.below(17) - 8) % TOP32
 
@@ -226,7 +242,8 @@ def damaged(random, whole):
 
 def random_cases():
     random = Splitmix(SEED)
-    wholes = [two((40, 12), (52, 12)), two((44, 4), (50, 8), flags=3), one(), good([(k, packed([LOAD] * k)) for k in range(1, 6)], flags=1)]
+    five = good([(k, packed([LOAD] * k)) for k in range(1, 6)], flags=1)
+    wholes = [two((40, 12), (52, 12)), two((44, 4), (50, 8), flags=3), one(), five]
     for k in range(RANDOM_CASES):
         yield f"random-{k}", damaged(random, random.choose(wholes))
 
@@ -235,16 +252,13 @@ def random_cases():
 
 
 def real_words(root):
-    """The words of the kept lists, which have every class and every refusal, and then some with fields changed."""
-    kept = []
-    for name in ("decode.txt", "encode.txt"):
-        for line in (root / "tests/vectors" / name).read_text().splitlines():
-            kept.append(int(line[19:27], 16))
+    """The words of the kept answers, which have every class and every refusal, and then some with fields changed."""
+    kept = [each.question.word for each in vectors.answers(root)]
     words = sorted(set(kept))
     random = Splitmix(SEED)
     while len(words) < REAL_WORDS:
         words.append(random.choose(kept) ^ random.below(2**26) & random.below(2**26))
-    # Branches and what stands beside them are mixed, so that sections differ.
+    # Branches and other words are mixed, so that sections differ.
     for k in range(len(words) - 1, 0, -1):
         other = random.below(k + 1)
         words[k], words[other] = words[other], words[k]
@@ -260,7 +274,8 @@ def real_cases(root):
         data = packed(turned, big=flags & 1)
         yield f"real-{flags}-one-section", good([(REAL_ADDRESSES[flags], data)], flags)
         size = 4 * quarter
-        yield f"real-{flags}-four-sections", good([(address, data[k * size : (k + 1) * size]) for k, address in enumerate(REAL_ADDRESSES)], flags)
+        four = [(address, data[k * size : (k + 1) * size]) for k, address in enumerate(REAL_ADDRESSES)]
+        yield f"real-{flags}-four-sections", good(four, flags)
 
 
 def sample_cases(root):
@@ -269,10 +284,10 @@ def sample_cases(root):
 
 
 def cases(root):
-    """Name and bytes of every case; no name stands twice."""
+    """Name and bytes of every case; no name occurs twice."""
     root = Path(root)
     parts = (
-        sample_cases(root), header_cases(), offset_cases(), length_cases(), address_cases(), two_cases(), cut_cases(), long_cases(),
-        many_cases(), random_cases(), real_cases(root),
+        sample_cases(root), header_cases(), offset_cases(), length_cases(), address_cases(), two_cases(), cut_cases(),
+        long_cases(), many_cases(), random_cases(), real_cases(root),
     )  # fmt: skip
     return [case for part in parts for case in part]

@@ -1,12 +1,12 @@
 #!/usr/bin/env python3
-"""Hold the program `sweep` against the kept expectations.
+"""Compare the program `sweep` with the kept expectations.
 
     check.py ROOT FOLDER WORD..
 
-The words are the command that runs the program. FOLDER is where expect.py left the listings, if it was run: a line that differs
-can then be shown. Every case of cases.py is made anew, compared with the kept digest of its bytes
-and put to the program as a file; some go through a pipe, a few bytes at a time. The program also has to end where nobody takes
-what it writes.
+The words are the command that runs the program. FOLDER is where expect.py left the listings, if it was run: a line that
+differs can then be shown. Every case of cases.py is made anew, compared with the kept digest of its bytes and put to
+the program as a file; some go through a pipe, a few bytes at a time. The program must also end where nothing takes what
+it writes.
 """
 import fcntl
 import itertools
@@ -28,7 +28,7 @@ import kept  # noqa: E402
 from cases import cases  # noqa: E402
 
 EXPECTED = ROOT / "tests/sweep/expected.txt"
-# No run takes a second; in an emulator on a busy machine it may be some.
+# A run takes less than a second; in an emulator on a busy machine it may take a few.
 LIMIT_SECONDS = 60
 POLL_SECONDS = 0.0001
 BUFFER_BYTES = 65536
@@ -49,8 +49,9 @@ words 6 refused 1
 
 # Names of cases, and how many bytes a read is given at most.
 PIECES = (
-    ("sample-example", 1), ("sample-wide", 1), ("sample-handler", 3), ("cut-7", 1), ("cut-40", 7), ("two-second-odd-length", 5),
-    ("sections-64", 11), ("long-65532", 4093), ("long-65535", 997), ("long-65536", 4096), ("long-70000", 8191), ("real-3-four-sections", 1021),
+    ("sample-example", 1), ("sample-wide", 1), ("sample-handler", 3), ("cut-7", 1), ("cut-40", 7),
+    ("two-second-odd-length", 5), ("sections-64", 11), ("long-65532", 4093), ("long-65535", 997), ("long-65536", 4096),
+    ("long-70000", 8191), ("real-3-four-sections", 1021),
 )  # fmt: skip
 UNREAD = ("sample-example", "real-0-one-section", "cut-0")
 
@@ -99,7 +100,8 @@ def compare(name, output, status, wanted, way=""):
     if status != 0:
         complain(f"{name}{way}: the program ended with status {status}")
     elif kept.shown(output) != wanted:
-        complain(f"{name}{way}: the program wrote {kept.shown(output)}, wanted {wanted}{first_difference(name, output)}")
+        difference = first_difference(name, output)
+        complain(f"{name}{way}: the program wrote {kept.shown(output)}, wanted {wanted}{difference}")
 
 
 def check_example():
@@ -112,7 +114,7 @@ def check_example():
 
 
 def described(name):
-    """The lines that the table of a sample in samples/README.md stands for."""
+    """The lines that the table of a sample in samples/README.md gives."""
     text = (ROOT / "samples/README.md").read_text(encoding="utf-8")
     part = text.partition(f"### {name}\n")[2].partition("\n#")[0]
     return [f"{address:0>16} {word} {reading}" for address, word, reading in TABLE_ROW.findall(part)]
@@ -155,14 +157,14 @@ def feed(to, data, piece, reader):
 
 
 def piped(data, piece, closed=True):
-    """What the program answers to pieces; the pipe may stay open at the end, as that of a writer who has not ended."""
+    """What the program answers to pieces; the pipe may stay open at the end, as if the writer had not finished."""
     source, to = os.pipe()
     with tempfile.TemporaryFile() as output, subprocess.Popen(COMMAND, stdin=source, stdout=output) as program:
         os.close(source)
         try:
             feed(to, data, piece, program)
         except BrokenPipeError:
-            pass  # it has read all that it wants
+            pass  # it has read all that it needs
         if closed:
             os.close(to)
         status = program.wait(LIMIT_SECONDS)
@@ -186,7 +188,8 @@ def ends(name, data, **streams):
         file.write(data)
         file.seek(0)
         try:
-            subprocess.run(COMMAND, stdin=file, stderr=subprocess.DEVNULL, timeout=LIMIT_SECONDS, check=False, **streams)
+            streams = {"stdin": file, "stderr": subprocess.DEVNULL, **streams}
+            subprocess.run(COMMAND, timeout=LIMIT_SECONDS, check=False, **streams)
         except subprocess.TimeoutExpired:
             complain(f"{name}: the program does not end")
 

@@ -1,10 +1,12 @@
 #!/usr/bin/env python3
-"""What the program has to write and the library to say of every case (cases.py), by the model (tests/model) and the Rust.
+"""What the program must write and what the library must say of every case (cases.py), by the model (tests/model) and
+the Rust.
 
     expect.py ROOT DRIVER FOLDER
 
-writes FOLDER/expected.txt, which is kept beside this file, FOLDER/NAME.txt for each samples/NAME.sec, and as FOLDER/CASE.listing
-what expected.txt has only a digest of. DRIVER is that of tests/oracle. `kept.py` says what stands in a line.
+writes FOLDER/expected.txt, which is kept beside this file, FOLDER/NAME.txt for each samples/NAME.sec, and as
+FOLDER/CASE.listing the listings of which expected.txt has only a digest. DRIVER is that of tests/oracle. `kept.py` says
+what a line has.
 """
 import sys
 from pathlib import Path

@@ -1,7 +1,9 @@
-"""The lines of expected.txt: name of the case, SHA-256 of its bytes, what the library says of the file, what `sweep` writes.
+"""The lines of expected.txt: name of the case, SHA-256 of its bytes, what the library says of the file, what `sweep`
+writes.
 
-What the library says is the number of the refusal, or for a good file its flags and for each section address, offset and length:
-`1:80001000+24+24`. What the program writes stands in brackets, with | for the end of a line, or else its SHA-256.
+What the library says is the number of the refusal, or for a good file its flags and, for each section, address, offset
+and length: `1:80001000+24+24`. What the program writes is in brackets, with | for the end of a line; a long listing is
+given by its SHA-256.
 """
 import hashlib
 from typing import NamedTuple

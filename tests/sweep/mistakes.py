@@ -1,6 +1,6 @@
 #!/usr/bin/env python3
-"""Put mistakes into the model of the section file, one at a time: each has to show in some case, or else the cases would not
-notice a program that makes it.
+"""Put mistakes into the model of the section file, one at a time: each must show in some case; otherwise the cases
+would not notice a program that makes it.
 
     mistakes.py ROOT
 """
@@ -32,7 +32,7 @@ MISTAKES = (
     ("<= len(file) <= MOST_BYTES", "<= len(file)"),
     ("records_end(file) <= len(file)", "records_end(file) < len(file)"),
     ("section.length < WORD_BYTES or", ""),
-    ("or section.length % WORD_BYTES or", "or"),
+    (" or section.length % WORD_BYTES", ""),
     ("section.length % WORD_BYTES", "section.length % 2"),
     ("section.offset < free_from", "section.offset <= free_from"),
     ("section.offset < free_from", "section.offset + 1 < free_from"),
@@ -57,7 +57,7 @@ MISTAKES = (
 
 
 def refusal(model, data):
-    # A mistake may have the model read where nothing is; that shows as well.
+    # A mistake may make the model read where nothing is; that shows as well.
     try:
         return model.refusal(data)
     except Exception:  # noqa: BLE001

@@ -1,12 +1,14 @@
-/* Calls every function of the library from several threads at once, and compares what each of them gets with what one thread alone gets.
+/* Calls every function of the library from several threads at once, and compares what each of them gets with what one
+   thread alone gets.
 
-   Standard input names section files, one a line. The files and a body of random words lie in memory that all threads read and nobody can
-   write; what a call writes to is the thread's own. A case is some calls of one function, and its digest is made of all numbers that
-   they answer and of every byte of the buffers. In each round one thread alone goes through the cases in order; then all threads do at
-   once, each in another order, and every digest has to be the same. So an answer that hangs on what was called before shows as well.
+   Standard input names section files, one a line. The files and a body of random words are in memory that all threads
+   read and none can write; what a call writes to is the thread's own. A case is some calls of one function, and its
+   digest is made of all numbers that they answer and of every byte of the buffers. In each round one thread alone goes
+   through the cases in order; then all threads do so at once, each in another order, and every digest must be the same.
+   So an answer that depends on earlier calls is noticed as well.
 
-   Where this is built with the thread sanitizer the library itself is not instrumented: the sanitizer sees what this program does, and what
-   the library hands to memcpy. A disturbance inside the library shows by the digests. */
+   Where this is built with the thread sanitizer, the library itself is not instrumented: the sanitizer sees what this
+   program does, and what the library hands to memcpy. A disturbance inside the library is shown by the digests. */
 #define _GNU_SOURCE
 #include <pthread.h>
 
@@ -121,7 +123,7 @@ static struct slice any_file(struct own *own)
     return file;
 }
 
-/* The record of a word, now and then with a byte changed; answers its length, which is at times too short. */
+/* The record of a word, now and then with a byte changed; answers its length, which is sometimes too short. */
 static size_t any_record(struct own *own, struct view view)
 {
     struct slice word = any_part(own, LONGEST_SLICE);
@@ -225,7 +227,8 @@ static void ask_page(struct own *own)
     size_t room = below(own, LONGEST_ROOM + 1);
     size_t place = below(own, room / 8 + 2);
     size_t words, bytes;
-    add(own, calmuredda_page(part.bytes, part.length, view.va, flags_of(view), index, any_out(own), room, place, &words, &bytes));
+    add(own, calmuredda_page(part.bytes, part.length, view.va, flags_of(view), index, any_out(own), room, place, &words,
+                             &bytes));
     add(own, words);
     add(own, bytes);
     add_out(own);
@@ -288,12 +291,12 @@ static uint64_t digest_of(struct own *own, size_t number)
     return own->digest;
 }
 
-/* The first complaint is the last: whoever makes it lets no other thread go on to one. */
+/* The first complaint is the last: the thread that makes it keeps the lock, so that no other can complain. */
 static void complain(const struct thread *thread, size_t number)
 {
     pthread_mutex_lock(&complaining);
-    printf("thread %d: round %" PRIu64 ", case %zu: %s does not answer as it answers to one thread alone\n", thread->number, asked_so_far,
-           number, functions[number % FUNCTIONS].name);
+    printf("thread %d: round %" PRIu64 ", case %zu: %s does not answer as it answers to one thread alone\n",
+           thread->number, asked_so_far, number, functions[number % FUNCTIONS].name);
     exit(EXIT_FAILURE);
 }
 
@@ -308,7 +311,8 @@ static void shuffle(struct thread *thread)
     }
 }
 
-/* In every second round the threads wait for each other before each function, so that they are often inside the same one. */
+/* In every second round the threads wait for each other before each function, so that they are often inside the same
+   one. */
 static int is_due(size_t number, size_t pass)
 {
     return asked_so_far % 2 == 0 ? pass == 0 : pass == number % FUNCTIONS;
@@ -387,6 +391,7 @@ int main(void)
     for (; asked_so_far < ROUNDS; asked_so_far++) {
         run_round();
     }
-    printf("%d calls of each of %d functions by each of %d threads at once\n", ROUNDS * CASES_EACH * CALLS_EACH, FUNCTIONS, THREADS);
+    printf("%d calls of each of %d functions by each of %d threads at once\n", ROUNDS * CASES_EACH * CALLS_EACH,
+           FUNCTIONS, THREADS);
     return EXIT_SUCCESS;
 }

@@ -1,5 +1,6 @@
-/* Stands between the test and the library (the linker's --wrap) and lets what one of the functions answers pass through memory that all
-   threads share, without a lock, by the number in the environment's MISTAKE: the test has to notice each. */
+/* Comes between the test and the library (the linker's --wrap) and lets the answer of one of the functions pass through
+   memory that all threads share, without a lock. The number in the environment's MISTAKE says which; the test must
+   notice each. */
 #define _GNU_SOURCE
 #include <sched.h>
 #include <string.h>
@@ -43,8 +44,8 @@ static void through_bytes(int number, uint8_t *bytes, size_t length)
     memcpy(bytes, shared_bytes, length);
 }
 
-uint8_t __wrap_calmuredda_decode(const uint8_t *bytes, size_t bytes_len, uint64_t va, uint8_t big, uint8_t wide, uint8_t *record,
-                                 size_t record_len)
+uint8_t __wrap_calmuredda_decode(const uint8_t *bytes, size_t bytes_len, uint64_t va, uint8_t big, uint8_t wide,
+                                 uint8_t *record, size_t record_len)
 {
     uint8_t number = __real_calmuredda_decode(bytes, bytes_len, va, big, wide, record, record_len);
     through_bytes(DECODE, record, record_len);
@@ -98,8 +99,8 @@ uint8_t __wrap_calmuredda_block(const uint8_t *body, size_t body_len, uint64_t v
     return number;
 }
 
-uint8_t __wrap_calmuredda_page(const uint8_t *body, size_t body_len, uint64_t va, uint8_t flags, size_t index, uint8_t *out,
-                               size_t out_len, size_t place, size_t *words, size_t *bytes)
+uint8_t __wrap_calmuredda_page(const uint8_t *body, size_t body_len, uint64_t va, uint8_t flags, size_t index,
+                               uint8_t *out, size_t out_len, size_t place, size_t *words, size_t *bytes)
 {
     uint8_t number = __real_calmuredda_page(body, body_len, va, flags, index, out, out_len, place, words, bytes);
     through_bytes(PAGE, out, out_len);

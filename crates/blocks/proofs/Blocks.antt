@@ -1,4 +1,5 @@
 -- What one word does to a block, and what is left of a block at a word.
+-- How: `stepOf` says what one word does, and a block is gone through with it word by word.
 use Prim.Native.Nat.{ℕ, zero, suc, _+_, _-_, _≤_, _<_}
 use mathlib.Core.Path.{_≡_, refl, sym, ap, _∙_}
 use mathlib.Core.Bool.{Bool, true, false, cond}

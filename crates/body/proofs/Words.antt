@@ -23,7 +23,7 @@ pub there : (v : View) (body : List ℕ) (n : ℕ) → n < wordsIn body → word
 unfolding wordOrZero
 there v body n h = rw (lt-ltb n (wordsIn body) h)
 
--- fewer than four bytes are no word
+-- fewer than four bytes are not a word
 too-short : (l : List ℕ) (va : ℕ) (big wide : Bool) → length l < 4 → decodedIn l va big wide ≡ refusedOf 1
 too-short [] va big wide h = refl
 too-short (a ∷ []) va big wide h = refl

@@ -1,4 +1,4 @@
--- WHAT IS PROVED OF THE WORDS OF A BODY. The proofs stand in proofs/Proved.antt.
+-- WHAT IS PROVED OF THE WORDS OF A BODY. The proofs are in proofs/Proved.antt.
 use Prim.Native.Nat.{ℕ, _≤_}
 use mathlib.Core.List.{List}
 use Rattle.body.specs.declared.View.{View}

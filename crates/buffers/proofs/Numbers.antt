@@ -1,4 +1,6 @@
 -- Numbers as bytes, the lowest first: a number's own bytes, and a number that is made of two.
+-- How: a number is made of its two halves, down to a byte, by one law over their sizes (`stands-join`). A row of writes
+-- is one write (Laws.antt, Writes.antt).
 use mathlib.Core.Path.{_≡_, refl, sym, ap, _∙_}
 use mathlib.Core.List.{List, [], _∷_, _++_}
 use Prim.Native.Nat.{ℕ, zero, suc, _+_, _*_, _/_, _%_, _^_, _≤_, _<_}

@@ -16,7 +16,7 @@ ghost use Rattle.listing.specs.Piece.{cursor, pieceNumber, pieceBytes, nextOf};
 ghost use Rattle.calmuredda.specs.Boundary.{on, decodedFor, answer, EncodesRecord, lineNumber, lineBytes};
 use listing::Cursor;
 
-// Where the number stands in the encoder's answer.
+// The place value of the number in the encoder's answer.
 const NUMBERS: u64 = 0x1_0000_0000;
 
 // Decodes the word in the first four bytes, and packs what that gives into the first 80 bytes of `record`. Answers with

@@ -1,4 +1,4 @@
--- The operands of a row: at most four, what holds of each of them, and the slots that they stand in.
+-- The operands of a row: at most four, what holds of each of them, and the slots that they are in.
 use Prim.Native.Nat.{ℕ, zero, suc, _≤_, _<_}
 use mathlib.Core.Path.{_≡_, refl, sym, _∙_, ap, subst}
 use mathlib.Core.Bool.{Bool, true, false, _&&_}
@@ -105,7 +105,7 @@ tail-at [] k = refl
 tail-at (o ∷ os) k = refl
 
 module _ (os : List Op) (h : length os ≤ 4) where
-  -- each operand stands in its slot, and register 0 past the last
+  -- each operand is in its slot, and register 0 past the last
   pub slot-at : (k : ℕ) → getD (slots os) k unused ≡ operand (getD os k (Reg 0))
   slot-at zero = ap operand (head-at os)
   slot-at (suc zero) = ap operand (head-at (tail os) ∙ tail-at os 0)
@@ -120,7 +120,7 @@ module _ (os : List Op) (h : length os ≤ 4) where
   pub each-slot : (P : Op → Type 0) → P (Reg 0) → Each P os → (k : ℕ) → P (getD (slots os) k unused .op)
   each-slot P z e k = subst (λ (o : Operand). P (o .op)) (sym (slot-at k)) (each-at P z os e k)
 
--- what stands in the slots in use, whatever is made of each
+-- what is in the slots in use, whatever is made of each
 pub in-use : {A : Type 0} (g : Op → A) (os : List Op) → length os ≤ 4 → take (length os) (g (first os) ∷ g (second os) ∷ g (third os) ∷ g (fourth os) ∷ []) ≡ map g os
 in-use g [] h = refl
 in-use g (a ∷ []) h = refl

@@ -1,4 +1,4 @@
--- WHAT IS PROVED OF THE DEFINITION, for every word, address and width flag. The proofs stand in proofs/Proved.antt.
+-- WHAT IS PROVED OF THE DEFINITION, for every word, address and width flag. The proofs are in proofs/Proved.antt.
 use Prim.Native.Nat.{ℕ, _+_, _%_}
 use mathlib.Core.Path.{_≡_}
 use mathlib.Core.Bool.{Bool, true, false, not, cond, _&&_, _||_}

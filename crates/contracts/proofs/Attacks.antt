@@ -107,7 +107,7 @@ module _ {κs : Lfts 2} {body out : RefT (List ℕ)} {x : Paged} {l : List ℕ} 
 untouched-page : UntouchedPage
 untouched-page κs body out x h = omega (arith, ap (λ (l : List ℕ). getD l 0 0) (left h), bytes .0)
 
--- what stands right after the first line is no second line
+-- what comes right after the first line is not a second line
 below : (n : ℕ) → ¬ (getD (wordLine plain view example 0 ++ replicate n 32) 40 0 ≡ 48)
 below n e =
     let first : List ℕ = wordLine plain view example 0 in

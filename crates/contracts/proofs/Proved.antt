@@ -12,7 +12,6 @@ use Rattle.contracts.specs.Buffers.{Buffers}
 use Rattle.contracts.specs.Names.{Names}
 use Rattle.contracts.specs.Record.{Record}
 use Rattle.contracts.specs.Text.{Text}
-use Rattle.contracts.specs.Columns.{Columns}
 use Rattle.contracts.specs.Line.{Line}
 use Rattle.contracts.specs.Section.{Section}
 use Rattle.contracts.specs.Body.{Body}
@@ -113,17 +112,8 @@ of-text =
       address = determined (λ κs a x y v w p q. (same (p .0) (q .0), refl ⨾ same (p .1) (q .1) ⨾ refl));
       hex16 = determined (λ κs a x y v w p q. (refl, refl ⨾ same p q ⨾ refl));
       hex8 = determined (λ κs a x y v w p q. (refl, refl ⨾ same p q ⨾ refl));
+      hex-in = by-equation (λ κs a v w. refl);
       name = determined (λ κs a x y v w p q. (same (p .0) (q .0), refl ⨾ same (p .1) (q .1) ⨾ refl));
-    }
-
-of-columns : Columns
-of-columns =
-    record {
-      has-form = by-equation (λ κs a v w. refl);
-      hex = by-equation (λ κs a v w. refl);
-      word = by-equation (λ κs a v w. refl);
-      line-end = by-equation (λ κs a v w. refl);
-      move-to-start = determined (λ κs a x y v w p q. (same (p .0) (q .0), same (p .1) (q .1) ⨾ refl));
     }
 
 of-line : Line
@@ -227,7 +217,6 @@ theorems =
       in-names = of-names;
       in-record = of-record;
       in-text = of-text;
-      in-columns = of-columns;
       in-line = of-line;
       in-section = of-section;
       in-body = of-body;

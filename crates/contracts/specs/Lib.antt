@@ -8,7 +8,6 @@ pub mod Buffers
 pub mod Names
 pub mod Record
 pub mod Text
-pub mod Columns
 pub mod Line
 pub mod Section
 pub mod Body

@@ -10,6 +10,8 @@ use Rattle.text.proofs.hex16.Kinds as hex16-kinds
 use Rattle.text.proofs.hex16.Reads as hex16
 use Rattle.text.proofs.hex8.Kinds as hex8-kinds
 use Rattle.text.proofs.hex8.Reads as hex8
+use Rattle.text.proofs.hex_in.Kinds as hex-in-kinds
+use Rattle.text.proofs.hex_in.Reads as hex-in
 use Rattle.text.proofs.name.Kinds as name-kinds
 use Rattle.text.proofs.name.Reads as name
 
@@ -19,4 +21,5 @@ pub record Text : Type 0 where
   pub address : Exact address-kinds.ps address-kinds.r address.Asked address.Learnt
   pub hex16 : Exact hex16-kinds.ps hex16-kinds.r hex16.Asked hex16.Learnt
   pub hex8 : Exact hex8-kinds.ps hex8-kinds.r hex8.Asked hex8.Learnt
+  pub hex-in : Exact hex-in-kinds.ps hex-in-kinds.r hex-in.Asked hex-in.Learnt
   pub name : Exact name-kinds.ps name-kinds.r name.Asked name.Learnt

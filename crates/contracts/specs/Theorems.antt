@@ -9,7 +9,6 @@ use Rattle.contracts.specs.Buffers.{Buffers}
 use Rattle.contracts.specs.Names.{Names}
 use Rattle.contracts.specs.Record.{Record}
 use Rattle.contracts.specs.Text.{Text}
-use Rattle.contracts.specs.Columns.{Columns}
 use Rattle.contracts.specs.Line.{Line}
 use Rattle.contracts.specs.Section.{Section}
 use Rattle.contracts.specs.Body.{Body}
@@ -28,7 +27,6 @@ pub record Theorems : Type 0 where
   pub in-names : Names
   pub in-record : Record
   pub in-text : Text
-  pub in-columns : Columns
   pub in-line : Line
   pub in-section : Section
   pub in-body : Body

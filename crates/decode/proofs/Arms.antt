@@ -1,5 +1,10 @@
 -- What an arm of the decoder has to show: the facts that it knows, and that the row or the entry they leave says what
 -- the arm answers.
+-- How: an arm knows facts of the word's fields (`op ≐ 0 ∷ funct ≐ 3 ∷ []`, Facts.antt). That a row takes every word
+-- with such fields, or an entry of the acceptance table refuses every one, is computed over the values that the fields
+-- can still have (Rows.antt, Entries.antt); that no other row does follows from `exact` of crate `classes`. The proof
+-- of an arm is a line that names its facts (`accepts`, `refuses`). An arm answers with a shape, and what a shape reads
+-- is `readBy` of crate `forms`, in the words of the table's columns.
 use Prim.Native.Nat.{ℕ, _+_, _*_, _^_, _<_}
 use mathlib.Core.Path.{_≡_, refl, sym, _∙_, ap, subst}
 use mathlib.Core.Bool.{Bool, true, false, not, _&&_}

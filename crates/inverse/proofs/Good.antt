@@ -1,5 +1,5 @@
 -- THE TEST that a table of classes and an acceptance table pass for demand 3: each word is in one row or is refused, each row is well
--- made, and rows of one mnemonic are twins whose words stand in order. All that the laws need of the tables is here.
+-- made, and rows of one mnemonic are twins whose words are in order. All that the laws need of the tables is here.
 use Prim.Native.Nat.{ℕ}
 use mathlib.Core.Bool.{Bool, true, false, not, _&&_, _||_}
 use mathlib.Core.List.{List, [], _∷_}

@@ -32,7 +32,7 @@ unfoldable pub inOrder : List Row → List Row → Bool
 inOrder ts [] = true
 inOrder ts (h ∷ us) = every (λ r. not (eqb (h .kind) (r .kind)) || follows ts h r) us && inOrder ts us
 
--- a row that is picked for its own words with that value: it is no later one, or an unsigned `li` whose value is not signed
+-- a row that is picked for its own words with that value: it is not a later one, or an unsigned `li` whose value is not signed
 abbrev pub Alone : List Row → Row → ℤ → Type 0
 Alone ts r z = T (not (later ts r)) ⊎ (T (unsignedLi r) × T (not (inSigned z)))
 

@@ -1,4 +1,4 @@
--- When two words have one reading.
+-- When two words have the same reading.
 use Prim.Native.Nat.{ℕ, _%_, _<_}
 use mathlib.Core.Path.{_≡_, sym, _∙_, ap, subst}
 use mathlib.Core.Bool.{Bool, true, false, cond}

@@ -1,4 +1,4 @@
--- Twins: a row that stands before a word's own row in the table and can have the word's operands gives them a word that is no larger.
+-- Twins: a row that comes before a word's own row in the table and can have the word's operands gives them a word that is no larger.
 use Prim.Native.Nat.{ℕ, _+_, _-_, _<_, _≤_}
 use mathlib.Core.Path.{_≡_, refl, sym, _∙_, ap, subst}
 use mathlib.Core.Bool.{Bool, true, false, not, _&&_, _||_}

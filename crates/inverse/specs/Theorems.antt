@@ -1,4 +1,4 @@
--- DEMAND 3, stated over demand 2's definition: when two words have one reading, and which word a reading gets. The
+-- DEMAND 3, stated over demand 2's definition: when two words share a reading, and which word a reading gets. The
 -- proofs are in proofs/Proved.antt.
 use Prim.Native.Nat.{ℕ, _<_, _≤_}
 use mathlib.Core.Path.{_≡_}

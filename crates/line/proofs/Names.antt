@@ -26,7 +26,7 @@ nameTests size most s =
 abbrev isName : ℕ → ℕ → String → Bool
 isName size most s = allOf (nameTests size most s)
 
--- each of these, and the empty text, which stands for a name that is not there
+-- each of these, and the empty text, which is there for a name that does not exist
 unfoldable areNames : ℕ → ℕ → List String → Bool
 areNames size most [] = isName size most ""
 areNames size most (s ∷ ss) = isName size most s && areNames size most ss

@@ -115,7 +115,7 @@ pub record Turn (σ : Spelling) (ops : List Operand) (count : ℕ) (d₀ : List 
   pub left : allRegistered (rest k count ops) ≡ true
   pub wrote : Wrote at₀ (most k) done d₀ d at
 
--- the mnemonic stands there
+-- the mnemonic is there
 pub begins : (σ : Spelling) (i : Insn) {d₀ d : List ℕ} {at : ℕ} → printable i ≡ true → length (i .ops) ≡ 4 →
     length d₀ ≡ longest → Wrote 0 longestMnemonic (textOf (nameOf (i .mnemonic))) d₀ d at →
     Turn σ (i .ops) (i .count) d at d at 0

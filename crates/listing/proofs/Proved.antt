@@ -1,4 +1,6 @@
 -- What specs/Theorems.antt states, proved.
+-- How: a run of lines is a list of them (Rows.antt of crate `pages`), which has both their bytes and their number. A
+-- piece and what is left after it are what was left before (`piece-rest`, Rest.antt).
 use Prim.Native.Nat.{ℕ, zero, suc, _+_, _*_, _-_, _%_, _^_, _<_, _≤_}
 use mathlib.Core.Path.{_≡_, sym, ap, _∙_}
 use mathlib.Core.List.{List, [], _∷_, _++_, append-assoc, append-nil}

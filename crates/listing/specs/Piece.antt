@@ -37,7 +37,7 @@ pieceLines f room c = fitting (lineAt f (c .section)) (linesIn f (c .section) - 
 unfoldable pub pieceBytes : List ℕ → ℕ → Cursor → List ℕ
 pieceBytes f room c = linesFrom (lineAt f (c .section)) (pieceLines f room c) (c .line)
 
--- after some lines of a section that has so many: its next line, after the last one the first of the next section
+-- after some lines of a section that has this many: its next line, after the last one the first of the next section
 abbrev pub onward : Cursor → ℕ → ℕ → Cursor
 onward c lines all =
     cond (ltb (c .line + lines) all) (cursor (c .section) (c .line + lines)) (cursor (c .section + 1) 0)

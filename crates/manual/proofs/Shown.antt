@@ -21,7 +21,7 @@ use Rattle.manual.specs.Agreement.{anyCovers, covering, anyPast, Each}
 use Rattle.manual.specs.Tight.{Shown, ShownPast, Tight}
 use Rattle.manual.proofs.Proved.{manual}
 
--- what an exception's example is: its own word, and nobody else's
+-- what an exception's example is: a word of its own and of no other
 abbrev shows-itself : Difference → Bool
 shows-itself d = covers d (d .example .wide) (fieldsOf (d .example .word)) && eqb (covering differences (d .example .wide) (fieldsOf (d .example .word))) 1
 

@@ -22,7 +22,7 @@ pub data Name : Type 0 where
 abbrev pub sameName : Name → Name → Bool
 sameName m n = elim (Name-discrete m n) [ yes e ↦ true | no d ↦ false ]
 
--- what stands in a column. A page is drawn in six: bits 31..26, 25..21, 20..16, 15..11, 10..6, 5..0
+-- what is in a column. A page is drawn in six: bits 31..26, 25..21, 20..16, 15..11, 10..6, 5..0
 pub data Column : Type 0 where
   is : ℕ → Column  -- fixed bits
   box : Name → Column  -- a field, or as much of it as the column holds

@@ -54,13 +54,13 @@ swap n p m ρ cs x = record { swapped = n; page = p; read-as = m; range = ρ; ba
 
 unfoldable pub swaps : List Swap
 swaps =
-    -- these are another instruction of the manual then, with the same reading
+    -- what comes back is another instruction of the manual, with the same reading
     swap or-as-addu "or" "move" all (funct gets 33 ∷ []) (narrow 0x00000025) ∷
     swap daddu-as-addu "daddu" "move" all (funct gets 33 ∷ []) (wide 0x0000002d) ∷
     swap ori-as-addiu "ori" "li" below-0x8000 (op gets 9 ∷ []) (narrow 0x34000000) ∷
     swap daddiu-as-addiu "daddiu" "li" all (op gets 9 ∷ []) (wide 0x64000000) ∷
     swap b-as-bgez "b" "b" all (op gets 1 ∷ rt gets 1 ∷ []) (narrow 0x10000000) ∷
-    -- these are none: the manual wants rd in rt
+    -- what comes back is not a word of the manual, which wants rd in rt
     swap clz-without-rt "clz" "clz" all (rt gets 0 ∷ []) (narrow 0x70010820) ∷
     swap clo-without-rt "clo" "clo" all (rt gets 0 ∷ []) (narrow 0x70010821) ∷
     []

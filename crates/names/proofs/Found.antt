@@ -137,7 +137,7 @@ named l k h e = go (kind-or-none l)
     go (inl n) = absurd (omega arith)
     go (inr f) = f .bytes ∙ ap nameBytes (sym (f .is) ∙ e)
 
--- zeros are no name
+-- zeros are not a name
 pub no-kind : kindOf (padded 16 "") ≡ noKind
 unfolding kindOf kindIn same mnemonics padded letters letter
 no-kind = refl

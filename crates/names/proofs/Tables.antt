@@ -1,4 +1,6 @@
 -- The tables of the source, each by a computed test: whatever list passes it serves.
+-- How: the code looks a name up at a place worked out of its letters, and compares. That each of the 212 names is at
+-- its place is one test over the code's own tables, computed; so is each array of four names.
 use Prim.Native.Nat.{ℕ, _+_, _*_, _/_, _%_, _≤_, _<_}
 use mathlib.Core.Path.{_≡_, refl, sym, _∙_, ap, subst}
 use mathlib.Core.Bool.{Bool, true, false, _||_}
@@ -57,7 +59,7 @@ arm-of kind e d t = arm e (omega arith) d t ∙ ap nameBytes (whole kind)
 abbrev pub placeIn : List ℕ → List ℕ → ℕ
 placeIn shifts l = (numAt 8 0 l % 265 + getD l 8 0 + getD shifts (numAt 8 0 l % 63) 0) % 256
 
--- the kind of each name stands at the name's place
+-- the kind of each name is at the name's place
 unfoldable pub complete : List ℕ → List ℕ → Bool
 complete shifts kinds = allBelow (λ k. eqb (getD kinds (placeIn shifts (nameBytes k)) 0) k) many
 

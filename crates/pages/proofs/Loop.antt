@@ -1,4 +1,6 @@
 -- The loop that writes as many lines as fit, over any lines that are not empty.
+-- How: the page's loop is a law over such lines (`Turn`). That every word's reading has a line of at most 120 bytes is
+-- `readable` and `short` of crate `line`, by computed tests of each row of the table of classes.
 use Prim.Native.Nat.{ℕ, suc, _+_, _-_, _<_, _≤_}
 use mathlib.Core.Path.{_≡_, refl, sym, ap, _∙_}
 use mathlib.Core.List.{List, [], _++_, append-assoc, append-nil}
@@ -18,7 +20,7 @@ module _ (line : ℕ → List ℕ) (n place total : ℕ) (out₀ : List ℕ) whe
   abbrev count : ℕ
   count = fitting line (total - n) n (length out₀ - place)
 
-  -- before line k: what stands there already, and what is to come
+  -- before line k: what is there already, and what is to come
   pub record Turn (out : List ℕ) (k at : ℕ) : Type 0 where
     pub done : List ℕ
     pub low : n ≤ k

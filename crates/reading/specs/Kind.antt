@@ -1,8 +1,10 @@
--- The mnemonic kinds: a number for each of the 212 mnemonics, in the order of the manual's opcode tables. A point in a
--- mnemonic is a hyphen here: `add-s` is add.s.
+-- The mnemonic kinds: a number for each mnemonic, in the order of the manual's opcode tables. A point in a mnemonic is
+-- a hyphen here: `add-s` is add.s. They follow from the list in Names.antt, which is where a mnemonic is added.
 use Prim.Native.Nat.{ℕ, zero, suc, _+_}
 use mathlib.Core.Path.{_≡_}
 use mathlib.Core.List.{List, [], _∷_}
+
+-- ── written by tools/name_tables ──
 
 -- SPECIAL, by funct
 
@@ -688,6 +690,8 @@ kinds =
     sdl ∷ sdr ∷ swr ∷ cache ∷ ll ∷ lwc1 ∷ pref ∷ lld ∷ ldc1 ∷ ld ∷ sc ∷ swc1 ∷
     scd ∷ sdc1 ∷ sd ∷
     []
+
+-- ── written by hand ──
 
 -- n numbers from a on
 unfoldable pub from : ℕ → ℕ → List ℕ

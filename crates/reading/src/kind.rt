@@ -3,6 +3,8 @@
 ghost use mathlib.Core.Path.{_≡_};
 ghost use Rattle.reading.specs.Kind.{kinds};
 
+// ── written by tools/name_tables ──
+
 // SPECIAL, by funct.
 pub const NOP: u8 = 0;
 
@@ -654,6 +656,8 @@ const ALL: [u8; MANY as usize] = [
     SDC1,
     SD,
 ];
+
+// ── written by hand ──
 
 // Nobody calls it: it is here to be proved.
 fn all() -> [u8; MANY as usize]

@@ -1,4 +1,7 @@
 -- What specs/Theorems.antt states, proved.
+-- How: a row of writes, each right after the one before, is one write of all their bytes (`next-at`, `then-at`,
+-- Laws.antt of crate `buffers`). Unpacking reads each part by its number and then compares every byte but the name's
+-- with what the reading would be packed to; the name was compared when its kind was found.
 use Prim.Native.Nat.{ℕ, zero, suc, _≤_, _<_}
 use mathlib.Core.Path.{_≡_, refl, sym, ap, _∙_, subst}
 use mathlib.Core.Bool.{Bool, true, false, cond}

@@ -43,7 +43,7 @@ pub record Theorems : Type 0 where
   pub forth : (l : List ℕ) (i : Insn) → unpacked l ≡ acceptedAs i → recordOf (acceptedAs i) ≡ take size l
   -- every word's reading is such a reading
   pub proper : (w va : ℕ) (wide : Bool) → Proper ((decodedOf w va wide) .insn)
-  -- two accepted words with one record have one reading, at whatever addresses and flags
+  -- two accepted words with the same record have the same reading, at whatever addresses and flags
   pub one : (w v va ua : ℕ) (wide broad : Bool) →
       (decodedOf w va wide) .number ≡ 0 → (decodedOf v ua broad) .number ≡ 0 →
       recordOf (decodedOf w va wide) ≡ recordOf (decodedOf v ua broad) →

@@ -403,7 +403,7 @@ fn is_operand(d: Decoded, k: usize, b: &[u8]) -> bool
     has_two(b, at, p.number, p.first, value_of(p))
 }
 
-// Do these four bytes and this number stand at place `at`?
+// Are these four bytes and this number at place `at`?
 fn has_four(b: &[u8], at: usize, w: u8, x: u8, y: u8, z: u8, v: u64) -> bool
     requires { ⌜ at + 12 ≤ length (now b) ⌝ }
     ensures { λ r. ⌜ (r ≡ true) ↔ (w ∷ x ∷ y ∷ z ∷ lowBytes 8 v ≡ part at 12 (now (b .entry))) ⌝ }

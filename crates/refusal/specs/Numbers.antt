@@ -1,4 +1,4 @@
--- THE REFUSAL NUMBERS, document 01's table: 0 is no refusal.
+-- THE REFUSAL NUMBERS, document 01's table: 0 is accepted.
 use Prim.Native.Nat.{ℕ}
 
 -- fewer than four bytes to decode

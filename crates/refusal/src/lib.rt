@@ -1,5 +1,5 @@
 // The numbers by which words, readings, lines, files, pages and records are refused: document 01's table, each once. 0
-// is no refusal. specs/Numbers.antt has the same names for the definitions.
+// means accepted. specs/Numbers.antt has the same names for the definitions.
 
 // Fewer than four bytes to decode.
 pub const SHORT: u8 = 1;

@@ -9,13 +9,13 @@ use lib.Seq.{append-snoc, drop-at, length-take-le, sets, sets-eq, take-all}
 use Rattle.buffers.specs.Bytes.{placed}
 use Rattle.text.specs.Text.{glyphOf, lastOf, hexOf}
 
--- bytes that are stored from j on stand there
+-- bytes that are stored from j on are there
 pub stored : (vs t : List ℕ) (j : ℕ) → j + length vs ≤ length t → drop j (sets t j vs) ≡ vs ++ drop (j + length vs) t
 stored vs t j h =
     let after : List ℕ = drop (j + length vs) t in
     ap (drop j) (sets-eq vs t j h ∙ append-assoc (take j t) vs after) ∙ drop-at (take j t) (vs ++ after) j (length-take-le j t (omega arith))
 
--- a digit that stood last before the place i stands there
+-- a digit that was last before the place i is there
 digit : (p t : List ℕ) (i g : ℕ) {d : ℕ} → 0 < i → i ≤ length t → g ≡ d → p ++ drop (i - 1) (set t (i - 1) g) ≡ (p ++ (d ∷ [])) ++ drop i t
 digit p t i g {d} some room e =
     let j : i - 1 + 1 ≡ i = omega arith in

@@ -3,3 +3,4 @@ pub mod Lengths
 pub mod Digits
 pub mod Names
 pub mod Rows
+pub mod Read

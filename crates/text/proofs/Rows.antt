@@ -23,7 +23,7 @@ without-append c (x ∷ a) b = go (eqb x c) (without-append c a b)
     go true e = refl
     go false e = e
 
--- digits and the minus sign are no byte below it: no newline, space, bracket or comma
+-- digits and the minus sign are not bytes below it: no newline, space, bracket or comma
 module _ (c : ℕ) (low : c < 45) where
   glyph-other : (d : ℕ) → glyphOf d ≡ c → ⊥
   glyph-other d = either (λ (g : ℕ). g ≡ c → ⊥) (ltb d 10) (λ e. omega arith) (λ e. omega arith)

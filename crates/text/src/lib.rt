@@ -1,12 +1,13 @@
-// Numbers and names as text, into bytes that a caller lends. Depends on `buffers`.
+// Numbers and names as text, into bytes that a caller lends, and hex digits read out of them. Depends on `buffers`.
 // Every function takes any place: the text is written where it has room, else nothing is; its length is the answer
-// either way.
+// either way. A number whose digits are not all there is 0.
 ghost use mathlib.Core.Path.{_≡_};
-ghost use Prim.Native.Nat.{_-_, _≤_, _<_};
-ghost use lib.ListN.{length, drop};
+ghost use Prim.Native.Nat.{_+_, _-_, _≤_, _<_};
+ghost use lib.ListN.{length, take, drop};
 ghost use lib.IntN.{natAbs};
 ghost use Rattle.buffers.specs.Bytes.{placed};
 ghost use Rattle.text.specs.Text.{glyphOf, numeralOf, decimalOf, addressOf, hexOf, beforeZero};
+ghost use Rattle.text.specs.Read.{between, digitOf, hexAfter, hexAt};
 
 const DECIMAL: u64 = 10;
 
@@ -139,6 +140,62 @@ pub fn hex8(n: u32, out: &mut [u8], at: usize)
 {
     let b = hex_digits(n as u64, HALF);
     buffers::put(&b[HALF..], out, at);
+}
+
+// ── digits read from columns ──
+
+// The value of the digit a.
+const LETTER_A: u8 = 10;
+
+// Is the byte one of those from `low` up to `high`?
+fn is_between(low: u8, byte: u8, high: u8) -> bool
+    ensures { λ r. ⌜ r ≡ between low byte high ⌝ }
+{
+    low <= byte && byte <= high
+}
+
+// The value of a hex digit, and 0 for any other byte.
+fn digit(byte: u8) -> u64
+    ensures { λ r. ⌜ r ≡ digitOf byte ⌝ }
+{
+    if is_between(b'0', byte, b'9') {
+        return (byte - b'0') as u64;
+    }
+    if is_between(b'a', byte, b'f') {
+        return (byte - b'a' + LETTER_A) as u64;
+    }
+    0
+}
+
+// The number in columns that are all there.
+fn number(b: &[u8], at: usize, digits: usize) -> u64
+    requires { ⌜ (digits ≤ 16) × (at + digits ≤ length (now b)) ⌝ }
+    ensures { λ r. ⌜ r ≡ hexAfter 0 (take digits (drop at (now (b .entry)))) ⌝ }
+{
+    let mut value: u64 = 0;
+    let mut i = 0;
+    while i < digits {
+        value = HEX * value + digit(b[at + i]);
+        i += 1;
+    }
+    value
+}
+
+// The number whose hex digits are in this many columns from a place on; 0 if they are not all there, or if there are
+// more than sixteen.
+pub fn hex_in(b: &[u8], at: usize, digits: usize) -> u64
+    ensures { λ r. ⌜ r ≡ hexAt at digits (now (b .entry)) ⌝ }
+{
+    if COLUMNS < digits {
+        return 0;
+    }
+    if b.len() < digits {
+        return 0;
+    }
+    if b.len() - digits < at {
+        return 0;
+    }
+    number(b, at, digits)
 }
 
 // ── names ──

@@ -1,4 +1,4 @@
--- What is proved of words, fields and signed numbers, for every value. The proofs stand in proofs/Proved.antt.
+-- What is proved of words, fields and signed numbers, for every value. The proofs are in proofs/Proved.antt.
 use Prim.Native.Nat.{ℕ, _+_, _-_, _^_, _<_}
 use mathlib.Core.Path.{_≡_}
 use lib.IntN.{pos, negsuc}

@@ -13,7 +13,7 @@ use Rattle.calmuredda.specs.Boundary.{lineNumber, lineBytes}
 use Rattle.calmuredda.proofs.calmuredda_line.Statement.{statement}
 use Rattle.calmuredda.proofs.calmuredda_line.Tie as tie
 
--- what is no record has no line
+-- what is not a record has no line
 none : (l : List ℕ) (room : ℕ) → ¬ (unpacked l .number ≡ 0) → (lineNumber l room ≡ unpacked l .number) × (lineBytes l room ≡ [])
 none l room h = (rw (ne-eqb _ _ h), rw (ne-eqb _ _ h))
 

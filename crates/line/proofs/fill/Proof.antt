@@ -20,7 +20,7 @@ Inv-loop line₀ at₀ ops count k₀ line at k = Turn plain ops count line₀ a
 abbrev μ-loop : tie.MeasureT-loop
 μ-loop line₀ at₀ ops count k₀ line at k = count - k
 
--- the mnemonic is written: where the function starts, and what stands in the line
+-- the mnemonic is written: where the function starts, and what is in the line
 module _ (w : tie.After-name2 Inv-loop μ-loop) where
   abbrev start : tie.Start Inv-loop μ-loop
   start = let v = w .before .before .before in v .before

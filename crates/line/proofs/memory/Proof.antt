@@ -12,7 +12,7 @@ use Rattle.line.proofs.Operands.{decimal-wrote}
 use Rattle.line.proofs.memory.Statement.{statement}
 use Rattle.line.proofs.memory.Tie as tie
 
--- the number is written: where the function starts, and what stands in the line
+-- the number is written: where the function starts, and what is in the line
 abbrev start : tie.After-decimal → tie.Start
 start w = w .before .before .before
 

@@ -26,7 +26,7 @@ memory-requires c κs =
     let s = m .before .before .before in
     (ltb-true (m .o4 .given .0 .1 .0) 32 (rw (m .o4 .given .1) at (s .pre .0)), s .pre .1)
 
--- the number of an immediate is written: its arm, where the function starts, and what stands in the line
+-- the number of an immediate is written: its arm, where the function starts, and what is in the line
 abbrev arm : tie.After-decimal → tie.After-o3
 arm w = w .before .before .before
 

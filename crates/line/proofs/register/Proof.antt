@@ -7,7 +7,7 @@ use Rattle.line.proofs.Names.{register-wrote}
 use Rattle.line.proofs.register.Statement.{statement}
 use Rattle.line.proofs.register.Tie as tie
 
--- the name is written: where the function starts, and what stands in the line
+-- the name is written: where the function starts, and what is in the line
 abbrev start : tie.After-name2 → tie.Start
 start w = let v = w .before .before .before in v .before .before
 

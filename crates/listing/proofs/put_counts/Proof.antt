@@ -9,7 +9,7 @@ use Rattle.listing.proofs.Texts.{counts-written}
 use Rattle.listing.proofs.put_counts.Statement.{statement}
 use Rattle.listing.proofs.put_counts.Tie as tie
 
--- the line stands in the array, before it is copied
+-- the line is in the array, before it is copied
 line-there : (put : tie.After-put1) →
     let second = put .before .before .before in
     let first = second .before .before .before in

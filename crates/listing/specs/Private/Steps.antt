@@ -8,7 +8,7 @@ use Rattle.pages.specs.Lines.{linesFrom, fitting}
 use Rattle.listing.specs.Swept.{wordCount, refusedCount, sumFrom}
 use Rattle.listing.specs.Piece.{lineAt, linesIn}
 
--- a number has at most so many
+-- a number has at most this many
 abbrev pub digits : ℕ
 digits = 20
 

@@ -11,7 +11,7 @@ use Rattle.record.specs.Record.{headBytes, effectBytes, operandBytes}
 abbrev pub part : ℕ → ℕ → List ℕ → List ℕ
 part at n l = take n (drop at l)
 
--- the reading has a mnemonic, and its bytes up to the name stand there
+-- the reading has a mnemonic, and its bytes up to the name are there
 pub record Holds (i : Insn) (l : List ℕ) : Type 0 where
   pub named : ¬ (i .mnemonic ≡ noKind)
   pub head : headBytes i ≡ part 0 12 l

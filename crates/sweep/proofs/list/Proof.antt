@@ -21,7 +21,7 @@ use Rattle.sweep.proofs.list.Tie as tie
 abbrev room : ℕ
 room = 4096
 
--- so many pieces were written, and the next one begins at the cursor
+-- this many pieces were written, and the next one begins at the cursor
 abbrev Inv-loop : tie.InvT-loop
 Inv-loop file page₀ at₀ page at = (length page ≡ room) × ((k : ℕ) × (at ≡ cursorAfter file (λ i. room) k))
 
