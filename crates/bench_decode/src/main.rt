@@ -2,6 +2,8 @@
 // a byte that says whether to decode, a byte that is the width flag, two that are ignored, then the words,
 // little-endian. Where it does not decode it adds up the words themselves, which is what the loop costs without the
 // decoder. Depends on `decode` and the kit's `io`.
+#![tactic(auto)]
+
 use reading::Decoded;
 
 #[derive(Drop)]

@@ -2,6 +2,8 @@
 // is that of bench_decode: a byte that says whether to encode, a byte that is the width flag, two that are ignored,
 // then the words, little-endian. Where it does not encode it only decodes, which is what the loop costs without the
 // encoder. Depends on `decode`, `encode` and the kit's `io`.
+#![tactic(auto)]
+
 use reading::{Encoded, Insn};
 
 const ACCEPTED: u8 = 0;

@@ -1,5 +1,7 @@
 // The blocks of a body: where a run of words ends, and in which of the four ways. Depends on `body` for the words and
 // their readings. specs/Block.antt says what a block is.
+#![tactic(auto)]
+
 ghost use Rattle.std.specs.Prelude.{◌≡◌, ◌+◌, ◌-◌, ◌<◌};
 ghost use Rattle.body.specs.Body.{words_in};
 ghost use Rattle.blocks.specs.Block as Block;

@@ -1,5 +1,7 @@
 // The words of a body: how many there are, where each stands, and what it is read as. Depends on `word` and
 // `decode` for the readings. specs/Body.antt has the definitions.
+#![tactic(auto)]
+
 ghost use Rattle.std.specs.Prelude.{◌≡◌};
 ghost use Rattle.body.specs.Body.{view_of, words_in, address_at, word_or_zero, decoded_at, refused_in};
 

@@ -1,5 +1,7 @@
 // Writing into bytes that a caller lends, and numbers as little-endian bytes. Depends on no other crate.
 // Every function takes any place: where there is no room, nothing is written, and 0 is read.
+#![tactic(auto)]
+
 ghost use Rattle.std.specs.Prelude.{◌≡◌, ◌+◌, ◌≤◌, ◌<◌, length, take, drop, [], ◌∷◌};
 ghost use Rattle.buffers.specs.Bytes.{over, placed, whole, low_bytes, num_at};
 ghost use Rattle.buffers.specs.Private.Numbers.{Stands};

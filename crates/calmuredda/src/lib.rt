@@ -3,6 +3,8 @@
 // for C. `rt staticlib calmuredda` makes libcalmuredda.a of this crate. specs/Boundary.antt says what the answers mean.
 // Where an answer is more than one number, C lends a place for each of the others, which is written whatever the answer
 // is.
+#![tactic(auto)]
+
 ghost use Rattle.std.specs.Prelude.{◌≡◌, length};
 ghost use Rattle.buffers.specs.Bytes.{over, over_at};
 ghost use Rattle.record.specs.Record.{pack_number, packed};

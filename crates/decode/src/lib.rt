@@ -1,6 +1,8 @@
 // mips.rs: `decode`, `decode_word` and `decode_cop1`, arm by arm, with a function for each group of words.
 // An arm names the shape of the word, and `forms` reads the word by its shape, as the source's closures and its `i` do.
 // Depends on `word`, `reading` and `forms`; what the answers mean is defined in `classes`.
+#![tactic(auto)]
+
 ghost use Rattle.std.specs.Prelude.{◌≤◌, ◌≡◌, [], ◌∷◌};
 ghost use Rattle.word.specs.Word as word;
 ghost use Rattle.word.specs.Word.{fields_of};

@@ -1,6 +1,8 @@
 // The encoder: from a reading to the smallest word that has it. The source has none; it only decodes.
 // A class by the mnemonic (`stems`), the operands put into its least word (`put`): one candidate, which is decoded and
 // compared. Depends on `decode` and `reading`; what the answer means is defined in `inverse`.
+#![tactic(auto)]
+
 ghost use Rattle.std.specs.Prelude.{◌≡◌, true};
 ghost use Rattle.refusal.specs.Numbers as refusal;
 ghost use Rattle.classes.specs.Meaning.{int_of};

@@ -1,5 +1,7 @@
 // Document 01's examples that are not marked P: decodes each and writes what it found, a line for each.
 // Those marked P are proved in proofs/, of the definition. Stands on `decode` and the kit's `io`.
+#![tactic(auto)]
+
 use reading::{Decoded, Insn, Op, kind};
 
 const OUT: i32 = 1;

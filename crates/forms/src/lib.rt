@@ -1,6 +1,8 @@
 // From a shape and a word to a reading: what the source's closures `r3`, `branch`, `load`, `store` and its `i` make.
 // `parts` makes the answer of a mnemonic, its operands and its effect.
 // Depends on `word` and `reading`; what a shape reads is said with the table of `classes`.
+#![tactic(auto)]
+
 ghost use Rattle.std.specs.Prelude.{◌≡◌};
 ghost use Rattle.forms.specs.Read.{read_by};
 

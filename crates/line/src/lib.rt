@@ -1,5 +1,7 @@
 // The printed line of a reading: mnemonic and operands, as the source's `format!`s would have them.
 // Depends on `names` for the names and on `text` for the numbers; specs/Line.antt says what a line is.
+#![tactic(auto)]
+
 ghost use Rattle.std.specs.Prelude.{◌≡◌, true, ◌++◌, ◌+◌, ◌≤◌, ◌<◌, length};
 ghost use Rattle.reading.specs.declared.Op.TheVariants.{Mem};
 ghost use Rattle.buffers.specs.Bytes.{over};

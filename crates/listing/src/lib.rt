@@ -1,6 +1,8 @@
 // The listing of a section file, piece by piece: every byte that the program `sweep` writes. Depends on `section` for
 // the file, on `body` and `pages` for its words and their lines. specs/Swept.antt says what the listing is,
 // specs/Piece.antt what a piece of it is.
+#![tactic(auto)]
+
 ghost use Rattle.std.specs.Prelude.{◌≡◌, ◌++◌, ◌+◌, ◌≤◌, ◌<◌, length};
 ghost use Rattle.buffers.specs.Bytes.{over};
 ghost use Rattle.buffers.specs.Writes.{Wrote};

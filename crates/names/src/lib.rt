@@ -1,5 +1,7 @@
 // The names of registers and of mnemonics: the source's `REGS` and string literals. From a kind to its name, and back.
 // Depends on `reading` for the kinds, on `text` for what a padded text is, and on `buffers`.
+#![tactic(auto)]
+
 ghost use Rattle.std.specs.Prelude.{◌≡◌, true, ◌↔◌, ◌+◌, ◌*◌, ◌≤◌, ◌<◌};
 ghost use Rattle.names.specs.Names.{register_bytes, name_bytes, kind_of};
 ghost use Rattle.names.specs.Private.Table.{IsRow, IsEntry, Candidate};

@@ -1,5 +1,7 @@
 // The pages of a body: the lines that reviewers sign. Depends on `body` for the words and their readings, on `line` and
 // `text` for the lines. specs/Page.antt says what a page is.
+#![tactic(auto)]
+
 ghost use Rattle.std.specs.Prelude.{◌≡◌, ◌≤◌, ◌<◌, length};
 ghost use Rattle.buffers.specs.Bytes.{over, over_at, whole};
 ghost use Rattle.buffers.specs.Writes.{Wrote};

@@ -1,5 +1,7 @@
 // The reading of a word: the source's `Op`, `Effect`, `Insn` and `Flow`, the blank reading, and whether two readings
 // are equal. Depends on `word` for the definition of two's complement.
+#![tactic(auto)]
+
 ghost use Rattle.std.specs.Prelude.{◌≡◌, true, ◌↔◌, pos};
 ghost use Rattle.reading.specs.Ends.{ending_of};
 ghost use Rattle.reading.specs.Reading.{blank_insn, refused_of};

@@ -1,5 +1,7 @@
 // The packed record of document 01: 80 bytes for what reading a word gives. Packing it, and unpacking it.
 // Depends on `reading`, `buffers` and `names`; specs/Record.antt says what the bytes are.
+#![tactic(auto)]
+
 ghost use Rattle.std.specs.Prelude.{◌≡◌, ◌+◌, ◌*◌, ◌%◌, ◌^◌, ◌<◌, ◌≤◌, true, ◌↔◌, ◌∷◌, ◌++◌, length, take, drop};
 ghost use Rattle.word.specs.Numbers.{signed};
 ghost use Rattle.reading.specs.Numbers.{target_parts, effect_parts, value_of};

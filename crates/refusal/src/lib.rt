@@ -1,6 +1,8 @@
 // The numbers by which words, readings, lines, files, pages and records are refused: document 01's table, each once. 0
 // means accepted. specs/Numbers.antt has the same names for the definitions.
 
+#![tactic(auto)]
+
 // Fewer than four bytes to decode.
 pub const SHORT: u8 = 1;
 

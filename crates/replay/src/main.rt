@@ -2,6 +2,8 @@
 // tests/vectors/README.md lists. The program takes the question out of a line, writes the line that the library's
 // answer makes, and compares the two byte by byte; so a line that is malformed differs as well. It prints how many
 // lines came and how many agree, and before that the first line that does not, as the library has it.
+#![tactic(auto)]
+
 ghost use Rattle.std.specs.Prelude.{◌≤◌};
 
 use reading::Decoded;

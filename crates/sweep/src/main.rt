@@ -1,5 +1,7 @@
 // Lists a section file from standard input on standard output. Every byte of the listing is a matter of the library
 // `listing`; here the file is read, and each piece is asked for and written. A write that fails ends the program.
+#![tactic(auto)]
+
 use listing::Cursor;
 
 const INPUT: i32 = 0;

@@ -1,6 +1,8 @@
 // Numbers and names as text, into bytes that a caller lends, and hex digits read out of them. Depends on `buffers`.
 // Every function takes any place: the text is written where it has room, else nothing is; its length is the answer
 // either way. A number whose digits are not all there is 0.
+#![tactic(auto)]
+
 ghost use Rattle.std.specs.Prelude.{◌≡◌, ◌+◌, ◌-◌, ◌≤◌, ◌<◌, length, take, drop, nat_abs};
 ghost use Rattle.buffers.specs.Bytes.{placed};
 ghost use Rattle.text.specs.Text.{glyph_of, numeral_of, decimal_of, address_of, hex_of, before_zero};

@@ -1,5 +1,7 @@
 // The fields of a word, and the numbers worked out of them: the `let`s at the head of the source's `decode_word`.
 // Depends on nothing but std.
+#![tactic(auto)]
+
 ghost use Rattle.std.specs.Prelude.{◌≡◌, ◌*◌, ◌<◌, pos};
 ghost use Rattle.word.specs.Word.{fields_of, op, rs, rt, rd, sa, funct};
 ghost use Rattle.word.specs.Numbers.{imm, index, signed, modulo64, branch_to, jump_to, upper, size_of, little_endian};

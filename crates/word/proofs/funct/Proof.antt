@@ -3,6 +3,6 @@ use Rattle.word.specs.Word.{fields_of}
 use Rattle.word.proofs.funct.Statement.{statement}
 use Rattle.word.proofs.funct.Tie as tie
 
-pub funct-spec : {M : Type 1} → statement M
+pub funct_spec : {M : Type 1} → statement M
 unfolding fields_of
-funct-spec = tie.close (tie.spec (λ c. search rules) (λ c. search rules))
+funct_spec = tie.close (tie.spec (λ c. search rules) (λ c. search rules))

@@ -4,8 +4,8 @@ use Rattle.word.proofs.Signed.{held_sub_fits, sub_held, size_is}
 use Rattle.word.proofs.ins_size.Statement.{statement}
 use Rattle.word.proofs.ins_size.Tie as tie
 
-sub-result : tie.Need-overflow-sub-result
-sub-result c = held_sub_fits (bits 15 11 c.args.w + 1) (bits 10 6 c.args.w) (omega arith) (omega arith)
+overflow_sub-result : tie.Need-overflow_sub-result
+overflow_sub-result c = held_sub_fits (bits 15 11 c.args.w + 1) (bits 10 6 c.args.w) (omega arith) (omega arith)
 
 returns : tie.Need-returns
 unfolding fields_of
@@ -13,8 +13,8 @@ returns c =
     sub_held (bits 15 11 c.args.w + 1) (bits 10 6 c.args.w) (omega arith) (omega arith)
     ∙ sym (size_is (bits 15 11 c.args.w) (bits 10 6 c.args.w))
 
-pub ins-size-spec : {M : Type 1} → statement M
-ins-size-spec = tie.close (tie.spec
+pub ins_size_spec : {M : Type 1} → statement M
+ins_size_spec = tie.close (tie.spec
     (λ c. search rules) (λ c. search rules) (λ c. search rules)
-    sub-result
+    overflow_sub-result
     returns)

@@ -6,5 +6,5 @@ use Rattle.word.proofs.jump_index.Tie as tie
 returns : tie.Need-returns
 returns c = sym (index_low c.args.w)
 
-pub jump-index-spec : {M : Type 1} → statement M
-jump-index-spec = tie.close (tie.spec returns)
+pub jump_index_spec : {M : Type 1} → statement M
+jump_index_spec = tie.close (tie.spec returns)

@@ -4,12 +4,12 @@ use Rattle.word.proofs.Signed.{product_fits, product_held, times_upper}
 use Rattle.word.proofs.lui.Statement.{statement}
 use Rattle.word.proofs.lui.Tie as tie
 
-mul-result : tie.Need-overflow-mul-result
-mul-result c = product_fits _ _ (omega arith) (imm_small _ (fields_fit c.before.args.w)) _ c.simm.ensures
+overflow_mul-result : tie.Need-overflow_mul-result
+overflow_mul-result c = product_fits _ _ (omega arith) (imm_small _ (fields_fit c.before.args.w)) _ c.simm.ensures
 
 returns : tie.Need-returns
 returns c =
     product_held 65536 _ (omega arith) (imm_small _ (fields_fit c.before.args.w)) _ c.simm.ensures ∙ times_upper _ (imm_small _ (fields_fit c.before.args.w))
 
-pub lui-spec : {M : Type 1} → statement M
-lui-spec = tie.close (tie.spec (λ c κs. search rules) mul-result returns)
+pub lui_spec : {M : Type 1} → statement M
+lui_spec = tie.close (tie.spec (λ c κs. search rules) overflow_mul-result returns)

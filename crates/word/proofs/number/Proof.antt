@@ -6,5 +6,5 @@ use Rattle.word.proofs.number.Tie as tie
 returns : tie.Need-returns
 returns c = to_z_pos w64 (search rules)
 
-pub number-spec : {M : Type 1} → statement M
-number-spec = tie.close (tie.spec (λ c. search rules) returns)
+pub number_spec : {M : Type 1} → statement M
+number_spec = tie.close (tie.spec (λ c. search rules) returns)

@@ -3,6 +3,6 @@ use Rattle.word.specs.Word.{fields_of}
 use Rattle.word.proofs.op.Statement.{statement}
 use Rattle.word.proofs.op.Tie as tie
 
-pub op-spec : {M : Type 1} → statement M
+pub op_spec : {M : Type 1} → statement M
 unfolding fields_of
-op-spec = tie.close (tie.spec (λ c. search rules) (λ c. search rules))
+op_spec = tie.close (tie.spec (λ c. search rules) (λ c. search rules))

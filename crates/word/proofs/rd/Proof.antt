@@ -3,6 +3,6 @@ use Rattle.word.specs.Word.{fields_of}
 use Rattle.word.proofs.rd.Statement.{statement}
 use Rattle.word.proofs.rd.Tie as tie
 
-pub rd-spec : {M : Type 1} → statement M
+pub rd_spec : {M : Type 1} → statement M
 unfolding fields_of
-rd-spec = tie.close (tie.spec (λ c. search rules) (λ c. search rules))
+rd_spec = tie.close (tie.spec (λ c. search rules) (λ c. search rules))

@@ -3,6 +3,6 @@ use Rattle.word.specs.Word.{fields_of}
 use Rattle.word.proofs.rt.Statement.{statement}
 use Rattle.word.proofs.rt.Tie as tie
 
-pub rt-spec : {M : Type 1} → statement M
+pub rt_spec : {M : Type 1} → statement M
 unfolding fields_of
-rt-spec = tie.close (tie.spec (λ c. search rules) (λ c. search rules))
+rt_spec = tie.close (tie.spec (λ c. search rules) (λ c. search rules))

@@ -7,5 +7,5 @@ use Rattle.word.proofs.uimm.Tie as tie
 returns : tie.Need-returns
 returns c = to_z_pos w64 (omega arith) ∙ ap pos (sym (imm_low c.args.w))
 
-pub uimm-spec : {M : Type 1} → statement M
-uimm-spec = tie.close (tie.spec (λ c. search rules) returns)
+pub uimm_spec : {M : Type 1} → statement M
+uimm_spec = tie.close (tie.spec (λ c. search rules) returns)
