@@ -6,7 +6,7 @@
 
 use reading::Decoded;
 
-#[derive(Drop)]
+#[derive(Clone, Copy)]
 struct State {
     decoding: bool,
     wide: bool,

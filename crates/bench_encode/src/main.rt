@@ -8,7 +8,7 @@ use reading::{Encoded, Insn};
 
 const ACCEPTED: u8 = 0;
 
-#[derive(Drop)]
+#[derive(Clone, Copy)]
 struct State {
     encoding: bool,
     wide: bool,

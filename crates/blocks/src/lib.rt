@@ -28,7 +28,7 @@ const END_HERE: u8 = 5;
 const GOES_ON: u8 = 0;
 
 // 0, how the block ends and how many words it has; or the number, kind 0 and no words.
-#[derive(Drop)]
+#[derive(Clone, Copy)]
 pub struct Ended {
     pub number: u8,
     pub kind: u8,

@@ -19,7 +19,7 @@ const BIG_ENDIAN: u8 = 1;
 const WIDE: u8 = 2;
 
 // How the words of a body are read: the address of the first, their byte order, and the width flag.
-#[derive(Drop)]
+#[derive(Clone, Copy)]
 pub struct View {
     pub va: u64,
     pub big_endian: bool,

@@ -423,7 +423,7 @@ fn bc1(w: u32) -> Shape
 }
 
 // The operands of an arithmetic word of COP1.
-#[derive(Drop)]
+#[derive(Clone, Copy)]
 enum FloatOps {
     FdFsFt,
     FdFs,
@@ -431,7 +431,7 @@ enum FloatOps {
 }
 
 // The source's `(base, ops)`: the mnemonic in format s, and the operands.
-#[derive(Drop)]
+#[derive(Clone, Copy)]
 struct FloatPair(u8, FloatOps);
 
 // The source's `(base, ops)` and its `format!`: the mnemonic of format s, moved on by the distance of the format.

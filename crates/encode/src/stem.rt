@@ -2,7 +2,7 @@
 // form of the table of classes, and serves every form whose operands go into the same fields: `RtCop0` for `rt-fs` and
 // `rt-hwr` too, `RtImm` for `rt-uimm`, `RtBase` for `ft-base` and `hint-base`, `RdRt` for `fs-ft`.
 
-#[derive(Drop)]
+#[derive(Clone, Copy)]
 pub(crate) enum Stem {
     NoOperands(u32),
     OneRs(u32),

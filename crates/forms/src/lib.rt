@@ -18,7 +18,7 @@ use reading::{Decoded, Effect, Flow, kind};
 // What a reading is made of before the word's fields are put in: the mnemonic, the form of the operands by its name in
 // the table of classes, and what the instruction does. Document 01's classes are more: many have one shape.
 // A decoder's arms answer with this and not with a reading, which has 168 bytes and would be moved at every step.
-#[derive(Drop)]
+#[derive(Clone, Copy)]
 pub enum Shape {
     // With the refusal number.
     Refused(u8),

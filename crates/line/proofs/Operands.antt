@@ -4,7 +4,7 @@ use Prim.Native.Nat.{ℕ, zero, suc, ◌+◌, ◌*◌, ◌-◌, ◌≤◌, ◌<�
 use mathlib.Core.Path.{◌≡◌, refl, sym, ap, ◌∙◌, subst}
 use mathlib.Core.Bool.{Bool, true, false, ◌&&◌}
 use mathlib.Core.List.{List, [], ◌∷◌, ◌++◌, append_assoc, append-nil}
-use native.Mathlib.Numerals.{add_one}
+use native.Mathlib.Numerals.{add-one}
 use native.Mathlib.Omega.{arith}
 use lib.Dec.{T, ltb, leb}
 use lib.IntN.{ℤ}
@@ -47,7 +47,7 @@ rest k n ops = drop k (take n ops)
 
 rest_cons : (k n : ℕ) (ops : List Operand) → k < n → n ≤ length ops →
     rest k n ops ≡ get_or ops k unused ∷ rest (k + 1) n ops
-rest_cons k n ops h m = slice_cons k n ops unused h m ∙ rw add_one
+rest_cons k n ops h m = slice_cons k n ops unused h m ∙ rw add-one
 
 -- ── registers ──
 

@@ -22,7 +22,7 @@ const OPERANDS: u8 = 4;
 const REGISTERS: u8 = 32;
 
 // 0 and how many bytes the line has, or the number and 0.
-#[derive(Drop)]
+#[derive(Clone, Copy)]
 pub struct Printed {
     pub number: u8,
     pub length: usize,

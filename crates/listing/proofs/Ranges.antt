@@ -2,7 +2,7 @@
 use Prim.Native.Nat.{ℕ, suc, ◌+◌, ◌-◌, ◌<◌, ◌≤◌}
 use mathlib.Core.Path.{◌≡◌, refl, sym, ap, ◌∙◌}
 use mathlib.Core.List.{List, ◌++◌, append-nil}
-use native.Mathlib.Numerals.{add_one}
+use native.Mathlib.Numerals.{add-one}
 use native.Mathlib.Decide.{dec_le}
 use native.Mathlib.Omega.{arith}
 use borrow.Author.Tests.{le-leb, lt-ltb, le-ltb, eq-eqb, ne_eqb, eqb-true}
@@ -133,9 +133,9 @@ module _ (f : List ℕ) (n j : ℕ) (out : List ℕ) {out₁ : List ℕ} {size :
         let p = line_left ∙ sym (at_start L out) in
         record {
           fit = rw (left, one_fits (line_at f n) (lines_in f n - (j + 1)) j (length out) room) (omega (arith, ek));
-          long = rw (add_one k, ← ep) (simp length-append (omega (arith, em)));
+          long = rw (add-one k, ← ep) (simp length-append (omega (arith, em)));
           text =
-              rw (add_one k, ← ep) (then_at 0 (length L) L P out (omega arith) fits p e ∙ at_start (L ++ P) out);
+              rw (add-one k, ← ep) (then_at 0 (length L) L P out (omega arith) fits p e ∙ at_start (L ++ P) out);
         }
 
 -- ── a page of words, from a place on ──

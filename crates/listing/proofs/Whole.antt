@@ -3,7 +3,7 @@ use Prim.Native.Nat.{ℕ, zero, suc, ◌+◌, ◌<◌, ◌≤◌}
 use mathlib.Core.Path.{◌≡◌, refl, sym, ap, ◌∙◌}
 use mathlib.Core.Bool.{Bool, true, false, cond}
 use mathlib.Core.List.{List, [], ◌++◌, append_assoc, append-nil}
-use native.Mathlib.Numerals.{add_one}
+use native.Mathlib.Numerals.{add-one}
 use native.Mathlib.Omega.{arith}
 use lib.Dec.{eqb}
 use lib.ListN.{length, get_or, length-append}
@@ -29,7 +29,7 @@ module _ (f : List ℕ) where
   unfolding lines_from
   section_bytes n h =
       rows_joined (line_at f n) (lines_in f n) 0
-      ∙ rw (lines_are f n h, add_one (word_count f n), head_at f n h)
+      ∙ rw (lines_are f n h, add-one (word_count f n), head_at f n h)
       (ap (λ (l : List ℕ). head_line f n ++ l) (lines_shift (line_in f n) (line_at f n) (word_at f n h) (word_count f n) 0))
 
   -- the last one
@@ -57,7 +57,7 @@ module _ (f : List ℕ) where
       go false = refl
 
   pub all_bytes : joined (all_rows f) ≡ swept_of f
-  all_bytes = rw (add_one (count_of f)) (parts_bytes (count_of f) 0 (omega arith)) ∙ sym swept_is
+  all_bytes = rw (add-one (count_of f)) (parts_bytes (count_of f) 0 (omega arith)) ∙ sym swept_is
 
   -- ── their number ──
 

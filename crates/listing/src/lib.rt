@@ -16,14 +16,14 @@ use body::View;
 
 // Where a listing goes on. Line 0 of a section is its head, line w + 1 that of word w; in the place of one more section
 // is the last line of all. Any two numbers are a cursor: where there is no line, nothing is left.
-#[derive(Drop)]
+#[derive(Clone, Copy)]
 pub struct Cursor {
     pub section: usize,
     pub line: usize,
 }
 
 // 0, how many bytes the piece has and where the listing goes on; or the number, no bytes and the same cursor.
-#[derive(Drop)]
+#[derive(Clone, Copy)]
 pub struct Listed {
     pub number: u8,
     pub bytes: usize,
@@ -31,14 +31,14 @@ pub struct Listed {
 }
 
 // All words of a file, and how many of them are refused.
-#[derive(Drop)]
+#[derive(Clone, Copy)]
 struct Counts {
     words: usize,
     refused: usize,
 }
 
 // How many lines were written, and how many bytes they have.
-#[derive(Drop)]
+#[derive(Clone, Copy)]
 struct Run {
     lines: usize,
     bytes: usize,

@@ -3,7 +3,7 @@ use Prim.Native.Nat.{ℕ, zero, suc, ◌+◌, ◌*◌, ◌-◌, ◌<◌, ◌≤�
 use mathlib.Core.Path.{◌≡◌, refl, ap}
 use mathlib.Core.List.{List, [], ◌++◌}
 use native.Mathlib.Nat.{mul-suc}
-use native.Mathlib.Numerals.{add_one}
+use native.Mathlib.Numerals.{add-one}
 use native.Mathlib.Decide.{dec_le}
 use native.Mathlib.Omega.{arith}
 use borrow.Author.Tests.{le-leb, lt-leb}
@@ -29,7 +29,7 @@ module _ (line : ℕ → List ℕ) (k n room : ℕ) where
   pub run_more : length (line n) ≤ room →
       run line (suc k) n room ≡ line n ++ run line k (n + 1) (room - length (line n))
   unfolding lines_from
-  run_more h = rw (one_fits h, add_one (fitting line k (n + 1) (room - length (line n))))
+  run_more h = rw (one_fits h, add-one (fitting line k (n + 1) (room - length (line n))))
 
 pub no_lines : (line : ℕ → List ℕ) (m n : ℕ) → m ≡ 0 → lines_from line m n ≡ []
 unfolding lines_from

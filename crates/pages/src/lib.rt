@@ -14,7 +14,7 @@ use body::View;
 use reading::Decoded;
 
 // 0, how many words the page has and how many bytes; or the number and nothing.
-#[derive(Drop)]
+#[derive(Clone, Copy)]
 pub struct Paged {
     pub number: u8,
     pub words: usize,

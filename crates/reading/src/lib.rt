@@ -9,7 +9,7 @@ ghost use Rattle.reading.specs.Numbers.{parts, op_parts, effect_parts, target_pa
 
 pub mod kind;
 
-#[derive(Drop)]
+#[derive(Clone, Copy)]
 pub enum Op {
     Reg(u8),
     FReg(u8),
@@ -21,12 +21,12 @@ pub enum Op {
 }
 
 // A field cannot be an array of enums, but it can be an array of structs that hold them.
-#[derive(Drop)]
+#[derive(Clone, Copy)]
 pub struct Operand {
     pub op: Op,
 }
 
-#[derive(Drop)]
+#[derive(Clone, Copy)]
 pub enum Effect {
     None,
     // `lui rt, hi`: rt holds hi times 65,536, sign-extended.
@@ -38,7 +38,7 @@ pub enum Effect {
     Write(u8),
 }
 
-#[derive(Drop)]
+#[derive(Clone, Copy)]
 pub enum Flow {
     None,
     Call,
@@ -49,13 +49,13 @@ pub enum Flow {
 }
 
 // The source's `Option<u64>`.
-#[derive(Drop)]
+#[derive(Clone, Copy)]
 pub enum Target {
     None,
     At(u64),
 }
 
-#[derive(Drop)]
+#[derive(Clone, Copy)]
 pub struct Insn {
     // One of the numbers of `kind`.
     pub mnemonic: u8,
@@ -69,7 +69,7 @@ pub struct Insn {
 }
 
 // What a word does to its block: the block goes on, ends with the next word, or ends here, with the word itself.
-#[derive(Drop)]
+#[derive(Clone, Copy)]
 pub enum Ending {
     On,
     Slot,
@@ -77,21 +77,21 @@ pub enum Ending {
 }
 
 // What reading a word gives: 0 and the reading, or the refusal number and the blank reading.
-#[derive(Drop)]
+#[derive(Clone, Copy)]
 pub struct Decoded {
     pub number: u8,
     pub insn: Insn,
 }
 
 // What encoding a reading gives: 0 and the word, or the refusal number and word 0.
-#[derive(Drop)]
+#[derive(Clone, Copy)]
 pub struct Encoded {
     pub number: u8,
     pub word: u32,
 }
 
 // An operand, an effect or a target in the numbers that the packed record has for it. They determine it.
-#[derive(Drop)]
+#[derive(Clone, Copy)]
 pub struct Parts {
     pub number: u8,
     pub first: u8,

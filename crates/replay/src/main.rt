@@ -44,7 +44,7 @@ const BY_LITTLE_ENDIAN: u8 = 1;
 
 const WAYS: u8 = 3;
 
-#[derive(Drop)]
+#[derive(Clone, Copy)]
 struct Question {
     wide: bool,
     va: u64,

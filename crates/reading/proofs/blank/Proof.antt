@@ -2,5 +2,5 @@ use mathlib.Core.Path.{refl}
 use Rattle.reading.proofs.blank.Statement.{statement}
 use Rattle.reading.proofs.blank.Tie as tie
 
-pub blank-spec : {M : Type 1} → statement M
-blank-spec = tie.close (tie.spec (λ c. refl))
+pub blank_spec : {M : Type 1} → statement M
+blank_spec = tie.close (tie.spec (λ c. refl))

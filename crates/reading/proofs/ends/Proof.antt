@@ -2,13 +2,13 @@ use Rattle.reading.specs.Ends.{ending_of}
 use Rattle.reading.proofs.ends.Statement.{statement}
 use Rattle.reading.proofs.ends.Tie as tie
 
-returns : tie.Need-returns
+returns-then-i : tie.Need-returns-then-i
 unfolding ending_of
-returns c = rw c.if1.true
+returns-then-i c = rw c.if-i.true
 
-returns-2 : tie.Need-returns-2
+returns-else-i : tie.Need-returns-else-i
 unfolding ending_of
-returns-2 c = rw c.if1.false
+returns-else-i c = rw c.if-i.false
 
-pub ends-spec : {M : Type 1} → statement M
-ends-spec = tie.close (tie.spec returns returns-2)
+pub ends_spec : {M : Type 1} → statement M
+ends_spec = tie.close (tie.spec returns-then-i returns-else-i)

@@ -5,24 +5,24 @@ use Rattle.reading.proofs.Same.{kept_value}
 use Rattle.reading.proofs.op_parts.Statement.{statement}
 use Rattle.reading.proofs.op_parts.Tie as tie
 
-returns-3 : tie.Need-returns-3
-returns-3 c =
-    let o = c.before.before.o3.given in
+returns-in-Imm : tie.Need-returns-in-Imm
+returns-in-Imm c =
+    let o = c.before.before.o-in-Imm-1.given in
     c.with_value.ensures ∙ (kept_value 3 0 0 0 (search rules) ∙ ap op_parts (sym o.1))
 
-returns-4 : tie.Need-returns-4
-returns-4 c =
-    let o = c.before.before.o4.given in
-    c.with-value2.ensures ∙ (kept_value 4 o.0.1.0 0 0 (search rules) ∙ ap op_parts (sym o.1))
+returns-in-Mem : tie.Need-returns-in-Mem
+returns-in-Mem c =
+    let o = c.before.before.o-in-Mem-1.given in
+    c.with_value-in-Mem.ensures ∙ (kept_value 4 o.0.1.0 0 0 (search rules) ∙ ap op_parts (sym o.1))
 
-pub op-parts-spec : {M : Type 1} → statement M
-op-parts-spec = tie.close (tie.spec
+pub op_parts_spec : {M : Type 1} → statement M
+op_parts_spec = tie.close (tie.spec
     (λ c. search rules) (λ c κs. search rules) (λ c. search rules) (λ c κs. search rules) (λ c. search rules)
     (λ c κs. search rules) (λ c. search rules) (λ c κs. search rules) (λ c. search rules) (λ c κs. search rules)
     (λ c. search rules) (λ c κs. search rules)
-    (λ c. c.with-register.ensures ∙ ap op_parts (sym c.before.before.o.given.1))
-    (λ c. c.with-register2.ensures ∙ ap op_parts (sym c.before.before.o2.given.1))
-    returns-3
-    returns-4
-    (λ c. c.with-address.ensures ∙ ap op_parts (sym c.before.before.o5.given.1))
-    (λ c. c.with-register3.ensures ∙ ap op_parts (sym c.before.before.o6.given.1)))
+    (λ c. c.with_register.ensures ∙ ap op_parts (sym c.before.before.o-1.given.1))
+    (λ c. c.with_register-in-FReg.ensures ∙ ap op_parts (sym c.before.before.o-in-FReg-1.given.1))
+    returns-in-Imm
+    returns-in-Mem
+    (λ c. c.with_address.ensures ∙ ap op_parts (sym c.before.before.o-in-Addr-1.given.1))
+    (λ c. c.with_register-in-Cop0.ensures ∙ ap op_parts (sym c.before.before.o-in-Cop0-1.given.1)))

@@ -5,9 +5,9 @@ use Rattle.reading.proofs.same_effect.Statement.{statement}
 use Rattle.reading.proofs.same_effect.Tie as tie
 
 returns : tie.Need-returns
-returns c = by_parts _ _ effect_parts effect_one c.before.before.effect_parts.ensures c.before.effect-parts2.ensures c.same_parts.ensures
+returns c = by_parts _ _ effect_parts effect_one c.before.before.effect_parts.ensures c.before.effect_parts-2.ensures c.same_parts.ensures
 
-pub same-effect-spec : {M : Type 1} → statement M
-same-effect-spec = tie.close (tie.spec
+pub same_effect_spec : {M : Type 1} → statement M
+same_effect_spec = tie.close (tie.spec
     (λ c κs. search rules) (λ c κs. search rules) (λ c κs. search rules)
     returns)

@@ -8,9 +8,9 @@ use Rattle.reading.proofs.same_flow.Tie as tie
 
 returns : tie.Need-returns
 returns c = (
-  λ e. flow_one _ _ (sym c.before.flow_number.ensures ∙ (eqb-true _ _ e ∙ c.flow-number2.ensures)),
-  λ e. eq-eqb _ _ (c.before.flow_number.ensures ∙ (ap flow_number e ∙ sym c.flow-number2.ensures)),
+  λ e. flow_one _ _ (sym c.before.flow_number.ensures ∙ (eqb-true _ _ e ∙ c.flow_number-2.ensures)),
+  λ e. eq-eqb _ _ (c.before.flow_number.ensures ∙ (ap flow_number e ∙ sym c.flow_number-2.ensures)),
 )
 
-pub same-flow-spec : {M : Type 1} → statement M
-same-flow-spec = tie.close (tie.spec (λ c κs. search rules) (λ c κs. search rules) returns)
+pub same_flow_spec : {M : Type 1} → statement M
+same_flow_spec = tie.close (tie.spec (λ c κs. search rules) (λ c κs. search rules) returns)

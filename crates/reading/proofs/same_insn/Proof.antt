@@ -6,26 +6,26 @@ use Rattle.reading.proofs.Same.{insn_one}
 use Rattle.reading.proofs.same_insn.Statement.{statement}
 use Rattle.reading.proofs.same_insn.Tie as tie
 
+returns-then-a-b : tie.Need-returns-then-a-b
+returns-then-a-b c = differs (λ e. c.if-a-b.true (ap (λ (k : Insn). k.mnemonic) e))
+
+returns-then-a-b-2 : tie.Need-returns-then-a-b-2
+returns-then-a-b-2 c = differs (λ e. c.if-a-b-2.true (ap (λ (k : Insn). k.count) e))
+
+returns-then-a-b-3 : tie.Need-returns-then-a-b-3
+returns-then-a-b-3 c = differs (λ e. said_no (beq_says _ _) c.if-a-b-3.true (ap (λ (k : Insn). k.delay_slot) e))
+
+returns-then-not-same_flow : tie.Need-returns-then-not-same_flow
+returns-then-not-same_flow c = differs (λ e. said_no c.before.same_flow.ensures c.if-not-same_flow.true (ap (λ (k : Insn). k.flow) e))
+
+returns-then-not-same_target : tie.Need-returns-then-not-same_target
+returns-then-not-same_target c = differs (λ e. said_no c.before.same_target.ensures c.if-not-same_target.true (ap (λ (k : Insn). k.target) e))
+
+returns-then-not-same_effect : tie.Need-returns-then-not-same_effect
+returns-then-not-same_effect c = differs (λ e. said_no c.before.same_effect.ensures c.if-not-same_effect.true (ap (λ (k : Insn). k.effect) e))
+
 returns : tie.Need-returns
-returns c = differs (λ e. c.if1.true (ap (λ (k : Insn). k.mnemonic) e))
-
-returns-2 : tie.Need-returns-2
-returns-2 c = differs (λ e. c.if2.true (ap (λ (k : Insn). k.count) e))
-
-returns-3 : tie.Need-returns-3
-returns-3 c = differs (λ e. said_no (beq_says _ _) c.if3.true (ap (λ (k : Insn). k.delay_slot) e))
-
-returns-4 : tie.Need-returns-4
-returns-4 c = differs (λ e. said_no c.before.same_flow.ensures c.if4.true (ap (λ (k : Insn). k.flow) e))
-
-returns-5 : tie.Need-returns-5
-returns-5 c = differs (λ e. said_no c.before.same_target.ensures c.if5.true (ap (λ (k : Insn). k.target) e))
-
-returns-6 : tie.Need-returns-6
-returns-6 c = differs (λ e. said_no c.before.same_effect.ensures c.if6.true (ap (λ (k : Insn). k.effect) e))
-
-returns-7 : tie.Need-returns-7
-returns-7 c =
+returns c =
     let at-if6 = c.before.before.before in
     let at-same-effect = at-if6.before in
     let at-if5 = at-same-effect.before in
@@ -40,26 +40,26 @@ returns-7 c =
     let b : Insn = at_entry.args.b in (
       λ e.
           insn_one a b
-          at-if1.if1.false
-          at-if2.if2.false
+          at-if1.if-a-b.false
+          at-if2.if-a-b-2.false
           (c.same_operands.ensures.0 e)
-          (said_yes at-same-flow.same_flow.ensures at-if4.if4.false)
-          (said_yes at-same-target.same_target.ensures at-if5.if5.false)
-          (said_yes (beq_says a.delay_slot b.delay_slot) at-if3.if3.false)
-          (said_yes at-same-effect.same_effect.ensures at-if6.if6.false),
+          (said_yes at-same-flow.same_flow.ensures at-if4.if-not-same_flow.false)
+          (said_yes at-same-target.same_target.ensures at-if5.if-not-same_target.false)
+          (said_yes (beq_says a.delay_slot b.delay_slot) at-if3.if-a-b-3.false)
+          (said_yes at-same-effect.same_effect.ensures at-if6.if-not-same_effect.false),
       λ e. c.same_operands.ensures.1 (ap (λ (k : Insn). k.ops) e),
     )
 
-pub same-insn-spec : {M : Type 1} → statement M
-same-insn-spec = tie.close (tie.spec
-    returns
-    returns-2
-    returns-3
+pub same_insn_spec : {M : Type 1} → statement M
+same_insn_spec = tie.close (tie.spec
+    returns-then-a-b
+    returns-then-a-b-2
+    returns-then-a-b-3
     (λ c κs. search rules)
-    returns-4
+    returns-then-not-same_flow
     (λ c κs. search rules)
-    returns-5
+    returns-then-not-same_target
     (λ c κs. search rules)
-    returns-6
+    returns-then-not-same_effect
     (λ c κs. search rules)
-    returns-7)
+    returns)

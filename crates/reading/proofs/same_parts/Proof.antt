@@ -9,8 +9,8 @@ use Rattle.reading.proofs.same_parts.Statement.{statement}
 use Rattle.reading.proofs.same_parts.Tie as tie
 
 -- all but the addresses are equal
-returns : tie.Need-returns
-returns c =
+returns-then-a-b-5 : tie.Need-returns-then-a-b-5
+returns-then-a-b-5 c =
     let values = c.before.before in
     let told-b = values.before in
     let told-a = told-b.before.before in
@@ -21,17 +21,17 @@ returns c =
     let entry = numbers.before.before.before in
     let a : Parts = entry.args.a in
     let b : Parts = entry.args.b in
-    let fa : SFits w64 a.value = record { sfits = told-a.struct_told.given.1.1.1.1.0.1 } in
-    let fb : SFits w64 b.value = record { sfits = told-b.struct-told2.given.1.1.1.1.0.1 } in
-    let v : a.value ≡ b.value = sym (to_z-of_z fa) ∙ (ap (to_z w64) values.if5.true ∙ to_z-of_z fb) in
+    let fa : SFits w64 a.value = record { sfits = told-a.struct_told-1.given.1.1.1.1.0.1 } in
+    let fb : SFits w64 b.value = record { sfits = told-b.struct_told-then-a-b-4-1.given.1.1.1.1.0.1 } in
+    let v : a.value ≡ b.value = sym (to_z-of_z fa) ∙ (ap (to_z w64) values.if-a-b-5.true ∙ to_z-of_z fb) in
     decides (number_says a.address b.address) (ap (λ (k : Parts). k.address))
-    (parts_one a b numbers.if1.true firsts.if2.true seconds.if3.true sizes.if4.true v)
+    (parts_one a b numbers.if-a-b.true firsts.if-a-b-2.true seconds.if-a-b-3.true sizes.if-a-b-4.true v)
 
-pub same-parts-spec : {M : Type 1} → statement M
-same-parts-spec = tie.close (tie.spec
-    returns
-    (λ c. ends (number_says _ _) (ap (λ (k : Parts). of_z w64 k.value)) c.if5.false)
-    (λ c. ends (number_says _ _) (ap (λ (k : Parts). k.size)) c.if4.false)
-    (λ c. ends (number_says _ _) (ap (λ (k : Parts). k.second)) c.if3.false)
-    (λ c. ends (number_says _ _) (ap (λ (k : Parts). k.first)) c.if2.false)
-    (λ c. ends (number_says _ _) (ap (λ (k : Parts). k.number)) c.if1.false))
+pub same_parts_spec : {M : Type 1} → statement M
+same_parts_spec = tie.close (tie.spec
+    returns-then-a-b-5
+    (λ c. ends (number_says _ _) (ap (λ (k : Parts). of_z w64 k.value)) c.if-a-b-5.false)
+    (λ c. ends (number_says _ _) (ap (λ (k : Parts). k.size)) c.if-a-b-4.false)
+    (λ c. ends (number_says _ _) (ap (λ (k : Parts). k.second)) c.if-a-b-3.false)
+    (λ c. ends (number_says _ _) (ap (λ (k : Parts). k.first)) c.if-a-b-2.false)
+    (λ c. ends (number_says _ _) (ap (λ (k : Parts). k.number)) c.if-a-b.false))

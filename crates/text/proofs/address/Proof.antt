@@ -2,7 +2,7 @@ use borrow.Author.Rules.{rules}
 use mathlib.Core.Path.{◌≡◌, ap, ◌∙◌}
 use mathlib.Core.List.{List, [], ◌∷◌}
 use Prim.Native.Nat.{ℕ, ◌+◌, ◌-◌}
-use native.Mathlib.Numerals.{add_one}
+use native.Mathlib.Numerals.{add-one}
 use native.Mathlib.Omega.{arith}
 use lib.ListN.{length, drop, set, length-set}
 use Rattle.text.specs.Text.{address_of}
@@ -23,7 +23,7 @@ text w =
     let s = w.spell.result - 2 in
     let b = w.spell.new.1.1.0 in
     let e : s + 2 ≡ w.spell.result = omega arith in
-    rw add_one (stored (48 ∷ 120 ∷ []) b s (omega arith) ∙ ap (λ (l : List ℕ). 48 ∷ 120 ∷ l) (ap (λ (m : ℕ). drop m b) e ∙ w.spell.ensures.3))
+    rw add-one (stored (48 ∷ 120 ∷ []) b s (omega arith) ∙ ap (λ (l : List ℕ). 48 ∷ 120 ∷ l) (ap (λ (m : ℕ). drop m b) e ∙ w.spell.ensures.3))
 
 returns : tie.Need-returns
 returns c =

@@ -4,7 +4,7 @@ use mathlib.Core.Bool.{Bool, true, false}
 use Prim.Native.Nat.{suc, ◌+◌, ◌-◌, ◌^◌}
 use native.Mathlib.Omega.{arith}
 use native.Mathlib.Nat.{not-suc-le-zero}
-use native.Mathlib.Numerals.{add_one}
+use native.Mathlib.Numerals.{add-one}
 use borrow.Author.Tests.{ltb-true}
 use lib.Dec.{T}
 use lib.IntN.{ℤ, pos, negsuc, nat_abs}
@@ -24,7 +24,7 @@ flipped (negsuc n) f e =
 
 one_more : (z : ℤ) → lt_z z (pos 0) ≡ true → mag z + 1 ≡ nat_abs z
 one_more (pos n) e = let z = ltb-true n 0 e in absurd (not-suc-le-zero z)
-one_more (negsuc n) e = add_one n
+one_more (negsuc n) e = add-one n
 
 not-below : (z : ℤ) → lt_z z (pos 0) ≡ false → T (non_neg z)
 not-below (pos n) e = tt

@@ -3,7 +3,7 @@ use mathlib.Core.Path.{◌≡◌}
 use Prim.Native.Nat.{◌+◌, ◌-◌, ◌≤◌}
 use native.Mathlib.Omega.{arith}
 use native.Mathlib.Nat.{zero-add}
-use native.Mathlib.Numerals.{add_one}
+use native.Mathlib.Numerals.{add-one}
 use lib.ListN.{length, drop, drop_of_length-le}
 use Rattle.text.specs.Text.{before_zero}
 use Rattle.text.proofs.Names.{ends, stops, letter}
@@ -21,7 +21,7 @@ loop-again c =
     let w = c.before.before.before in
     let l = w.loop in
     let b = w.before.args.b.now in
-    (omega arith, rw add_one (omega (arith, letter l.n b (omega arith) c.if1.false, l.invariant.1)))
+    (omega arith, rw add-one (omega (arith, letter l.n b (omega arith) c.if1.false, l.invariant.1)))
 
 returns : tie.Need-returns invariant-loop decreases-loop
 returns c =

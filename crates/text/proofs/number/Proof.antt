@@ -2,7 +2,7 @@
 use borrow.Author.Rules.{rules}
 use mathlib.Core.Path.{◌≡◌, sym, ◌∙◌}
 use Prim.Native.Nat.{◌+◌, ◌*◌, ◌-◌, ◌^◌, ◌≤◌, ◌<◌}
-use native.Mathlib.Numerals.{add_one}
+use native.Mathlib.Numerals.{add-one}
 use native.Mathlib.Omega.{arith}
 use lib.ListN.{take, drop, get_or}
 use Rattle.text.specs.Read.{hex_after}
@@ -39,7 +39,7 @@ loop-again c =
     let l = at-loop.loop in
     let a = at-loop.before.before.args in
     let more = one_more a.b.now a.at l.i (omega arith) in
-    (omega arith, rw add_one (omega (arith, more, l.invariant.1, c.digit.ensures)))
+    (omega arith, rw add-one (omega (arith, more, l.invariant.1, c.digit.ensures)))
 
 returns : tie.Need-returns invariant-loop decreases-loop
 returns c =

@@ -4,6 +4,6 @@ use Rattle.reading.specs.Kind.{kinds}
 use Rattle.reading.proofs.kind.all.Statement.{statement}
 use Rattle.reading.proofs.kind.all.Tie as tie
 
-pub all-spec : {M : Type 1} → statement M
+pub all_spec : {M : Type 1} → statement M
 unfolding kinds
-all-spec = tie.close (tie.spec (λ c. refl))
+all_spec = tie.close (tie.spec (λ c. refl))
