@@ -1,7 +1,7 @@
 -- Rows and refusals as boxes: a row that leaves out words 0 and 0x40 is four, any other one; an entry of the acceptance table is one.
 use Prim.Native.Nat.{ℕ, ◌+◌}
 use mathlib.Core.Path.{◌≡◌, refl, sym, ◌∙◌, ap, ap₂}
-use mathlib.Core.Bool.{Bool, true, false, not, cond, ◌&&◌, and_true}
+use mathlib.Core.Bool.{Bool, true, false, not, cond, ◌&&◌, and-true}
 use mathlib.Core.List.{List, [], ◌∷◌, ◌++◌}
 use mathlib.Core.Option.{none, some}
 use lib.Dec.{T, eqb, leb}
@@ -99,10 +99,10 @@ count_four x f m e =
     let b : Bool = eqb (f rt) 0 in
     let c : Bool = eqb (f rd) 0 in
     let d : Bool = leb (f sa) 1 in
-    count_meet x (limits some_bit none none none) _ f m (not a) _ e (and_true (not a))
-    (count_meet x (limits nought some_bit none none) _ f m (a && not b) _ e (ap (λ (t : Bool). a && t) (and_true (not b)))
-    (count_meet x (limits nought nought some_bit none) _ f m (a && (b && not c)) _ e (ap (λ (t : Bool). a && (b && t)) (and_true (not c)))
-    (count_meet x (limits nought nought nought (some (λ v. not (leb v 1)))) [] f m (a && (b && (c && not d))) 0 e (ap (λ (t : Bool). a && (b && (c && t))) (and_true (not d)))
+    count_meet x (limits some_bit none none none) _ f m (not a) _ e (and-true (not a))
+    (count_meet x (limits nought some_bit none none) _ f m (a && not b) _ e (ap (λ (t : Bool). a && t) (and-true (not b)))
+    (count_meet x (limits nought nought some_bit none) _ f m (a && (b && not c)) _ e (ap (λ (t : Bool). a && (b && t)) (and-true (not c)))
+    (count_meet x (limits nought nought nought (some (λ v. not (leb v 1)))) [] f m (a && (b && (c && not d))) 0 e (ap (λ (t : Bool). a && (b && (c && t))) (and-true (not d)))
     (count_none f))))
     ∙ four m a b c d
 
@@ -111,7 +111,7 @@ unfolding takes boxes_by
 count_row r f = go r.nops
   where
     go : (n : Bool) → count (boxes_by n (row_box r)) f ≡ bit (six (λ x. match (pat_of r x) (f x)) && not (n && nop_like f))
-    go false = count_box (row_box r) f ∙ ap bit (within_row r f ∙ sym (and_true (six (λ x. match (pat_of r x) (f x)))))
+    go false = count_box (row_box r) f ∙ ap bit (within_row r f ∙ sym (and-true (six (λ x. match (pat_of r x) (f x)))))
     go true = count_four (row_box r) f (six (λ x. match (pat_of r x) (f x))) (within_row r f)
 
 pub count_rows : (ts : List Row) (f : Fields) → count (boxes ts) f ≡ taking ts f
@@ -122,22 +122,22 @@ count_rows (r ∷ ts) f = count_append (boxes_by r.nops (row_box r)) (boxes ts) 
 -- ── refusals ──
 
 unfoldable pub test_box : Test → Box
-test_box (y one_of_lem vs) x = cond (same_field y x) (some (λ a. elem a vs)) none
+test_box (y one_of vs) x = cond (same_field y x) (some (λ a. elem a vs)) none
 test_box (y none_of vs) x = cond (same_field y x) (some (λ a. not (elem a vs))) none
 
 -- a test at one field is that test
 only_at : (y : Field) (p : ℕ → Bool) (f : Fields) → within (λ x. cond (same_field y x) (some p) none) f ≡ p (f y)
 unfolding six
-only_at op p f = and_true (p (f op))
-only_at rs p f = and_true (p (f rs))
-only_at rt p f = and_true (p (f rt))
-only_at rd p f = and_true (p (f rd))
-only_at sa p f = and_true (p (f sa))
+only_at op p f = and-true (p (f op))
+only_at rs p f = and-true (p (f rs))
+only_at rt p f = and-true (p (f rt))
+only_at rd p f = and-true (p (f rd))
+only_at sa p f = and-true (p (f sa))
 only_at funct p f = refl
 
 within_test : (t : Test) (f : Fields) → within (test_box t) f ≡ holds t f
 unfolding test_box holds
-within_test (y one_of_lem vs) f = only_at y (λ a. elem a vs) f
+within_test (y one_of vs) f = only_at y (λ a. elem a vs) f
 within_test (y none_of vs) f = only_at y (λ a. not (elem a vs)) f
 
 unfoldable pub tests_box : List Test → Box

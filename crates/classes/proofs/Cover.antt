@@ -1,7 +1,7 @@
 -- Boxes: sets of words given field by field. The walk, computed, shows that each word is in exactly one box of a list.
 use Prim.Native.Nat.{ℕ, ◌+◌}
 use mathlib.Core.Path.{◌≡◌, refl, sym, ◌∙◌, ap, subst, fun_ext}
-use mathlib.Core.Bool.{Bool, true, false, cond, ◌&&◌, and_true, and_comm, and_assoc}
+use mathlib.Core.Bool.{Bool, true, false, cond, ◌&&◌, and-true, and_comm, and_assoc}
 use mathlib.Core.List.{List, [], ◌∷◌, ◌++◌}
 use mathlib.Core.Option.{none, some}
 use lib.Dec.{T, eqb, eqb→eq}
@@ -54,7 +54,7 @@ regroup a b c d e g = simp and_assoc
 pub in_order : (p : Field → Bool) → (p op && (p funct && (p rs && (p rt && (p rd && (p sa && true)))))) ≡ six p
 unfolding six
 in_order p =
-    ap (λ (b : Bool). p op && (p funct && (p rs && (p rt && (p rd && b))))) (and_true (p sa))
+    ap (λ (b : Bool). p op && (p funct && (p rs && (p rt && (p rd && b))))) (and-true (p sa))
     ∙ (later (p op) (p funct) (p rs && (p rt && (p rd && p sa))) ∙ regroup (p op) (p rs) (p rt) (p rd) (p sa) (p funct))
 
 abbrev asked : Box → Field → Guard
@@ -90,7 +90,7 @@ both (some p) (some q) = some (λ a. p a && q a)
 
 pub passes_both : (g h : Guard) (a : ℕ) → passes (both g h) a ≡ (passes g a && passes h a)
 passes_both none h a = refl
-passes_both (some p) none a = sym (and_true (p a))
+passes_both (some p) none a = sym (and-true (p a))
 passes_both (some p) (some q) a = refl
 
 abbrev pub meet : Box → Box → Box

@@ -14,7 +14,7 @@ pub data Test : Type 0 where
 infix 80 ◌one_of◌
 infix 80 ◌none_of◌
 unfoldable pub holds : Test → Fields → Bool
-holds (x one_of_lem vs) f = elem (f x) vs
+holds (x one_of vs) f = elem (f x) vs
 holds (x none_of vs) f = not (elem (f x) vs)
 
 -- an entry: its number, and the tests that a word meets which it refuses
@@ -49,22 +49,22 @@ arithmetic = 16 ∷ 17 ∷ 20 ∷ 21 ∷ []
 unfoldable pub refusals : List Refusal
 refusals =
     -- op
-    refuse numbers.op (op one_of_lem (18 ∷ 19 ∷ 29 ∷ 30 ∷ 50 ∷ 54 ∷ 58 ∷ 59 ∷ 62 ∷ []) ∷ []) ∷
+    refuse numbers.op (op one_of (18 ∷ 19 ∷ 29 ∷ 30 ∷ 50 ∷ 54 ∷ 58 ∷ 59 ∷ 62 ∷ []) ∷ []) ∷
     -- SPECIAL, by funct
-    refuse numbers.special (op one_of_lem only 0 ∷ funct one_of_lem (1 ∷ 5 ∷ 14 ∷ 21 ∷ 40 ∷ 41 ∷ 53 ∷ 55 ∷ 57 ∷ 61 ∷ []) ∷ []) ∷
+    refuse numbers.special (op one_of only 0 ∷ funct one_of (1 ∷ 5 ∷ 14 ∷ 21 ∷ 40 ∷ 41 ∷ 53 ∷ 55 ∷ 57 ∷ 61 ∷ []) ∷ []) ∷
     -- REGIMM, by rt
-    refuse numbers.regimm (op one_of_lem only 1 ∷ rt none_of (0 to 3 ++ 16 ∷ 17 ∷ []) ∷ []) ∷
+    refuse numbers.regimm (op one_of only 1 ∷ rt none_of (0 to 3 ++ 16 ∷ 17 ∷ []) ∷ []) ∷
     -- COP0, by rs; rs 16 by funct
-    refuse numbers.cop0 (op one_of_lem only 16 ∷ rs none_of (0 ∷ 4 ∷ 16 ∷ []) ∷ []) ∷
-    refuse numbers.cop0 (op one_of_lem only 16 ∷ rs one_of_lem only 16 ∷ funct none_of (24 ∷ 32 ∷ []) ∷ []) ∷
+    refuse numbers.cop0 (op one_of only 16 ∷ rs none_of (0 ∷ 4 ∷ 16 ∷ []) ∷ []) ∷
+    refuse numbers.cop0 (op one_of only 16 ∷ rs one_of only 16 ∷ funct none_of (24 ∷ 32 ∷ []) ∷ []) ∷
     -- COP1, by fmt, the rs bits; 16, 17, 20 and 21 by funct
-    refuse numbers.cop1 (op one_of_lem only 17 ∷ rs one_of_lem (3 ∷ 7 ∷ 9 to 15 ++ 18 ∷ 19 ∷ 22 to 31) ∷ []) ∷
+    refuse numbers.cop1 (op one_of only 17 ∷ rs one_of (3 ∷ 7 ∷ 9 to 15 ++ 18 ∷ 19 ∷ 22 to 31) ∷ []) ∷
     refuse numbers.cop1
-    (op one_of_lem only 17 ∷ rs one_of_lem arithmetic ∷
+    (op one_of only 17 ∷ rs one_of arithmetic ∷
     funct none_of (0 to 7 ++ 13 ∷ 32 ∷ 33 ∷ 36 ∷ 37 ∷ 50 ∷ 60 ∷ 62 ∷ []) ∷ []) ∷
     -- SPECIAL2, by funct
-    refuse numbers.special2 (op one_of_lem only 28 ∷ funct none_of (0 ∷ 1 ∷ 2 ∷ 4 ∷ 32 ∷ 33 ∷ []) ∷ []) ∷
+    refuse numbers.special2 (op one_of only 28 ∷ funct none_of (0 ∷ 1 ∷ 2 ∷ 4 ∷ 32 ∷ 33 ∷ []) ∷ []) ∷
     -- SPECIAL3, by funct; 32 by sa
-    refuse numbers.special3 (op one_of_lem only 31 ∷ funct none_of (0 ∷ 4 ∷ 32 ∷ 59 ∷ []) ∷ []) ∷
-    refuse numbers.special3 (op one_of_lem only 31 ∷ funct one_of_lem only 32 ∷ sa none_of (2 ∷ 16 ∷ 24 ∷ []) ∷ []) ∷
+    refuse numbers.special3 (op one_of only 31 ∷ funct none_of (0 ∷ 4 ∷ 32 ∷ 59 ∷ []) ∷ []) ∷
+    refuse numbers.special3 (op one_of only 31 ∷ funct one_of only 32 ∷ sa none_of (2 ∷ 16 ∷ 24 ∷ []) ∷ []) ∷
     []

@@ -16,7 +16,7 @@ use Rattle.decode.proofs.Facts.{Fact, Known, sure, sure_holds}
 -- ── the entry that refuses it ──
 
 unfoldable pub sure_test : List Fact → Test → Bool
-sure_test ks (x one_of_lem vs) = sure ks x (λ a. elem a vs)
+sure_test ks (x one_of vs) = sure ks x (λ a. elem a vs)
 sure_test ks (x none_of vs) = sure ks x (λ a. not (elem a vs))
 
 unfoldable pub sure_tests : List Fact → List Test → Bool
@@ -25,7 +25,7 @@ sure_tests ks (t ∷ ts) = sure_test ks t && sure_tests ks ts
 
 sure_test_lem : (ks : List Fact) (f : Fields) → Known f ks → Fit f → (u : Test) → T (sure_test ks u) → T (holds u f)
 unfolding sure_test holds
-sure_test_lem ks f h i (x one_of_lem vs) t = sure_holds ks f h i x (λ a. elem a vs) t
+sure_test_lem ks f h i (x one_of vs) t = sure_holds ks f h i x (λ a. elem a vs) t
 sure_test_lem ks f h i (x none_of vs) t = sure_holds ks f h i x (λ a. not (elem a vs)) t
 
 sure_tests_lem : (ks : List Fact) (f : Fields) → Known f ks → Fit f → (us : List Test) → T (sure_tests ks us) → T (meets us f)

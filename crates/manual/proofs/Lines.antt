@@ -25,9 +25,9 @@ nothing (t ∷ ts) = false
 
 -- one of two tests is met: a field is one of some values, or none of them
 abbrev opposed : Test → Test → Bool
-opposed (x one_of_lem vs) (y one_of_lem us) = false
-opposed (x one_of_lem vs) (y none_of us) = same_field x y && same_numbers vs us
-opposed (x none_of vs) (y one_of_lem us) = false
+opposed (x one_of vs) (y one_of us) = false
+opposed (x one_of vs) (y none_of us) = same_field x y && same_numbers vs us
+opposed (x none_of vs) (y one_of us) = false
 opposed (x none_of vs) (y none_of us) = false
 
 abbrev opposite : List Test → List Test → Bool
@@ -48,12 +48,12 @@ any_when (φ ∷ φs) f = meets φ.when f || any_when φs f
 
 opposed_met : (t u : Test) (f : Fields) → T (opposed t u) → (holds t f || holds u f) ≡ true
 unfolding holds
-opposed_met (x one_of_lem vs) (y one_of_lem us) f h = absurd h
-opposed_met (x one_of_lem vs) (y none_of us) f h =
+opposed_met (x one_of vs) (y one_of us) f h = absurd h
+opposed_met (x one_of vs) (y none_of us) f h =
     ap₂ (λ (z : Field) (l : List ℕ). elem (f x) vs || not (elem (f z) l)) (sym (same_field_lem x y (and_l (same_field x y) _ h)))
     (sym (same_numbers_lem vs us (and_r (same_field x y) _ h)))
     ∙ or-not_self (elem (f x) vs)
-opposed_met (x none_of vs) (y one_of_lem us) f h = absurd h
+opposed_met (x none_of vs) (y one_of us) f h = absurd h
 opposed_met (x none_of vs) (y none_of us) f h = absurd h
 
 opposite_met : (ts us : List Test) (f : Fields) → T (opposite ts us) → (meets ts f || meets us f) ≡ true
@@ -110,7 +110,7 @@ alias_found [] p f = refl
 alias_found (a ∷ us) p f = go (eqt a.of_page p.name) (alias_found us p f)
   where
     aliased : Line
-    aliased = record { page = p; name = a.alias; when = a.zero one_of_lem only 0 ∷ []; args = a.left }
+    aliased = record { page = p; name = a.alias; when = a.zero one_of only 0 ∷ []; args = a.left }
 
     one : (d m r : Bool) → (r || d) ≡ d → (((d && m) || r) || d) ≡ d
     one true true r e = refl

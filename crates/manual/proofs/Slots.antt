@@ -227,7 +227,7 @@ is31 (v ∷ u ∷ vs) = false
 -- `link` by what the line asks of rd: that it is 31, or that it is not
 abbrev pub link_slots : List Test → Option (List Slot)
 link_slots [] = none
-link_slots (x one_of_lem vs ∷ []) = cond (same_field x rd && is31 vs) (some (plain (reg rs) ∷ [])) none
+link_slots (x one_of vs ∷ []) = cond (same_field x rd && is31 vs) (some (plain (reg rs) ∷ [])) none
 link_slots (x none_of vs ∷ []) = cond (same_field x rd && is31 vs) (some (plain (reg rd) ∷ plain (reg rs) ∷ [])) none
 link_slots (t ∷ u ∷ ts) = none
 
@@ -258,7 +258,7 @@ tested x vs f t =
 link_outs : (ts : List Test) (l : List Slot) → link_slots ts ≡ some l → (va : ℕ) (f : Fields) → T (meets ts f) → outs link va f ≡ slot_outs va f l
 unfolding meets holds outs slot_out out
 link_outs [] l e va f t = absurd (none-ne-some l e)
-link_outs (x one_of_lem vs ∷ []) l e va f t =
+link_outs (x one_of vs ∷ []) l e va f t =
     let r = when_some (same_field x rd && is31 vs) (plain (reg rs) ∷ []) l e in
     at_31 (eqb (f rd) 31) (subst T (tested x vs f r.0) (and_l (elem (f x) vs) true t)) ∙ ap (slot_outs va f) r.1
   where

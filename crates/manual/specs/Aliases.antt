@@ -40,7 +40,7 @@ unfoldable pub alias_lines : List Alias → Page → List Line
 alias_lines [] p = []
 alias_lines (a ∷ us) p =
     cond (eqt a.of_page p.name)
-    (record { page = p; name = a.alias; when = a.zero one_of_lem only 0 ∷ []; args = a.left } ∷ [])
+    (record { page = p; name = a.alias; when = a.zero one_of only 0 ∷ []; args = a.left } ∷ [])
     []
     ++ alias_lines us p
 

@@ -100,37 +100,37 @@ narrow_with ts = words off ts []
 
 -- SPECIAL, SPECIAL2, SPECIAL3, COP1X by funct
 abbrev pub special : List ℕ → List Test → List Test
-special fs ts = op one_of_lem only 0 ∷ funct one_of_lem fs ∷ ts
+special fs ts = op one_of only 0 ∷ funct one_of fs ∷ ts
 
 abbrev pub special2 : List ℕ → List Test → List Test
-special2 fs ts = op one_of_lem only 28 ∷ funct one_of_lem fs ∷ ts
+special2 fs ts = op one_of only 28 ∷ funct one_of fs ∷ ts
 
 abbrev pub special3 : List ℕ → List Test → List Test
-special3 fs ts = op one_of_lem only 31 ∷ funct one_of_lem fs ∷ ts
+special3 fs ts = op one_of only 31 ∷ funct one_of fs ∷ ts
 
 abbrev pub cop1x_funct : List ℕ → List Test → List Test
-cop1x_funct fs ts = op one_of_lem only 19 ∷ funct one_of_lem fs ∷ ts
+cop1x_funct fs ts = op one_of only 19 ∷ funct one_of fs ∷ ts
 
 -- REGIMM by rt
 abbrev pub regimm : List ℕ → List Test → List Test
-regimm vs ts = op one_of_lem only 1 ∷ rt one_of_lem vs ∷ ts
+regimm vs ts = op one_of only 1 ∷ rt one_of vs ∷ ts
 
 -- COP0 and COP1 by rs, COP1 formats by rs and funct
 abbrev pub cop0_rs : List ℕ → List Test → List Test
-cop0_rs vs ts = op one_of_lem only 16 ∷ rs one_of_lem vs ∷ ts
+cop0_rs vs ts = op one_of only 16 ∷ rs one_of vs ∷ ts
 
 abbrev pub cop1_rs : List ℕ → List Test → List Test
-cop1_rs vs ts = op one_of_lem only 17 ∷ rs one_of_lem vs ∷ ts
+cop1_rs vs ts = op one_of only 17 ∷ rs one_of vs ∷ ts
 
 abbrev pub float : List ℕ → List ℕ → List Test → List Test
-float vs fs ts = op one_of_lem only 17 ∷ rs one_of_lem vs ∷ funct one_of_lem fs ∷ ts
+float vs fs ts = op one_of only 17 ∷ rs one_of vs ∷ funct one_of fs ∷ ts
 
 abbrev pub single_double : List ℕ
 single_double = 16 ∷ 17 ∷ []
 
 -- the field is zero; it is not
 abbrev pub clear : Field → Test
-clear x = x one_of_lem only 0
+clear x = x one_of only 0
 
 abbrev pub set : Field → Test
 set x = x none_of only 0
@@ -162,7 +162,7 @@ difference e x us a = record { exception = e; example = x; words = us; answer = 
 unfoldable pub refused_words : List Difference
 refused_words =
     difference movf_movt (narrow 0x00000001)
-    (all_with (special (only 1) (rt one_of_lem (ending_in 0 ++ ending_in 1) ∷ clear sa ∷ [])) ∷ [])
+    (all_with (special (only 1) (rt one_of (ending_in 0 ++ ending_in 1) ∷ clear sa ∷ [])) ∷ [])
     (refused numbers.special) ∷
     difference trap_immediates (narrow 0x04080000)
     (all_with (regimm (8 ∷ 9 ∷ 10 ∷ 11 ∷ 12 ∷ 14 ∷ []) []) ∷ []) (refused numbers.regimm) ∷
@@ -170,19 +170,19 @@ refused_words =
     (all_with (regimm (18 ∷ 19 ∷ []) (rs none_of only 31 ∷ [])) ∷ []) (refused numbers.regimm) ∷
     difference synci (narrow 0x041f0000) (all_with (regimm (only 31) []) ∷ []) (refused numbers.regimm) ∷
     difference dmfc0_dmtc0 (wide 0x40200000)
-    (wide_with (cop0_rs (1 ∷ 5 ∷ []) (clear sa ∷ funct one_of_lem (0 to 7) ∷ [])) ∷ []) (refused numbers.cop0) ∷
+    (wide_with (cop0_rs (1 ∷ 5 ∷ []) (clear sa ∷ funct one_of (0 to 7) ∷ [])) ∷ []) (refused numbers.cop0) ∷
     difference rdpgpr_wrpgpr (narrow 0x41400000)
     (all_with (cop0_rs (10 ∷ 14 ∷ []) (clear sa ∷ clear funct ∷ [])) ∷ []) (refused numbers.cop0) ∷
     difference di_ei (narrow 0x41606000)
-    (all_with (cop0_rs (only 11) (rd one_of_lem only 12 ∷ clear sa ∷ funct one_of_lem (0 ∷ 32 ∷ []) ∷ [])) ∷ [])
+    (all_with (cop0_rs (only 11) (rd one_of only 12 ∷ clear sa ∷ funct one_of (0 ∷ 32 ∷ []) ∷ [])) ∷ [])
     (refused numbers.cop0) ∷
     difference tlb_words (narrow 0x42000001) (all_with (cop0_rs (only 16) (clear rt ∷ clear rd ∷ clear sa ∷
-    funct one_of_lem (1 ∷ 2 ∷ 6 ∷ 8 ∷ []) ∷ [])) ∷ []) (refused numbers.cop0) ∷
+    funct one_of (1 ∷ 2 ∷ 6 ∷ 8 ∷ []) ∷ [])) ∷ []) (refused numbers.cop0) ∷
     difference deret (narrow 0x4200001f)
-    (all_with (cop0_rs (only 16) (clear rt ∷ clear rd ∷ clear sa ∷ funct one_of_lem only 31 ∷ [])) ∷ [])
+    (all_with (cop0_rs (only 16) (clear rt ∷ clear rd ∷ clear sa ∷ funct one_of only 31 ∷ [])) ∷ [])
     (refused numbers.cop0) ∷
     difference wait_with_high_code (narrow 0x42200020)
-    (all_with (cop0_rs (17 to 31) (funct one_of_lem only 32 ∷ [])) ∷ []) (refused numbers.cop0) ∷
+    (all_with (cop0_rs (17 to 31) (funct one_of only 32 ∷ [])) ∷ []) (refused numbers.cop0) ∷
     difference mfhc1_mthc1 (narrow 0x44600000)
     (all_with (cop1_rs (3 ∷ 7 ∷ []) (clear sa ∷ clear funct ∷ [])) ∷ []) (refused numbers.cop1) ∷
     difference to_long_rounded (narrow 0x46000008)
@@ -190,25 +190,25 @@ refused_words =
     difference to_word_rounded (narrow 0x4600000c)
     (all_with (float single_double (12 ∷ 14 ∷ 15 ∷ []) (clear rt ∷ [])) ∷ []) (refused numbers.cop1) ∷
     difference float_moves_on_condition (narrow 0x46000011)
-    (all_with (float single_double (only 17) (rt one_of_lem (ending_in 0 ++ ending_in 1) ∷ [])) ∷
+    (all_with (float single_double (only 17) (rt one_of (ending_in 0 ++ ending_in 1) ∷ [])) ∷
     all_with (float single_double (18 ∷ 19 ∷ []) []) ∷ [])
     (refused numbers.cop1) ∷
     difference recip_rsqrt (narrow 0x46000015)
     (all_with (float single_double (21 ∷ 22 ∷ []) (clear rt ∷ [])) ∷ []) (refused numbers.cop1) ∷
     difference cvt_ps_s (narrow 0x46000026) (all_with (float (only 16) (only 38) []) ∷ []) (refused numbers.cop1) ∷
     difference other_conditions (narrow 0x46000030)
-    (all_with (float single_double (48 ∷ 49 ∷ 51 to 59 ++ 61 ∷ 63 ∷ []) (sa one_of_lem ending_in 0 ∷ [])) ∷ [])
+    (all_with (float single_double (48 ∷ 49 ∷ 51 to 59 ++ 61 ∷ 63 ∷ []) (sa one_of ending_in 0 ∷ [])) ∷ [])
     (refused numbers.cop1) ∷
     difference paired_single (narrow 0x46c00000)
     (all_with (float (only 22) (0 ∷ 1 ∷ 2 ∷ 18 ∷ 19 ∷ 44 to 47) []) ∷
     all_with (float (only 22) (5 ∷ 6 ∷ 7 ∷ 32 ∷ 40 ∷ []) (clear rt ∷ [])) ∷
-    all_with (float (only 22) (only 17) (rt one_of_lem (0 ∷ 1 ∷ 8 ∷ 9 ∷ 16 ∷ 17 ∷ 24 ∷ 25 ∷ []) ∷ [])) ∷
-    all_with (float (only 22) (48 to 63) (sa one_of_lem (0 ∷ 8 ∷ 16 ∷ 24 ∷ []) ∷ [])) ∷
+    all_with (float (only 22) (only 17) (rt one_of (0 ∷ 1 ∷ 8 ∷ 9 ∷ 16 ∷ 17 ∷ 24 ∷ 25 ∷ []) ∷ [])) ∷
+    all_with (float (only 22) (48 to 63) (sa one_of (0 ∷ 8 ∷ 16 ∷ 24 ∷ []) ∷ [])) ∷
     [])
     (refused numbers.cop1) ∷
     difference cop2 (narrow 0x48000000)
-    (all_with (op one_of_lem only 18 ∷ rs one_of_lem (0 ∷ 2 ∷ 3 ∷ 4 ∷ 6 ∷ 7 ∷ 8 ∷ 16 to 31) ∷ []) ∷
-    wide_with (op one_of_lem only 18 ∷ rs one_of_lem (1 ∷ 5 ∷ []) ∷ []) ∷ [])
+    (all_with (op one_of only 18 ∷ rs one_of (0 ∷ 2 ∷ 3 ∷ 4 ∷ 6 ∷ 7 ∷ 8 ∷ 16 to 31) ∷ []) ∷
+    wide_with (op one_of only 18 ∷ rs one_of (1 ∷ 5 ∷ []) ∷ []) ∷ [])
     (refused numbers.op) ∷
     difference cop1x (narrow 0x4c000000)
     (all_with (cop1x_funct (0 ∷ 1 ∷ 5 ∷ []) (clear rd ∷ [])) ∷
@@ -228,9 +228,9 @@ refused_words =
     (wide_with (special3 (only 5) []) ∷ words on (special3 (6 ∷ 7 ∷ []) []) (holds ordered ∷ []) ∷ [])
     (refused numbers.special3) ∷
     difference dsbh_dshd (wide 0x7c0000a4)
-    (wide_with (special3 (only 36) (clear rs ∷ sa one_of_lem (2 ∷ 5 ∷ []) ∷ [])) ∷ []) (refused numbers.special3) ∷
+    (wide_with (special3 (only 36) (clear rs ∷ sa one_of (2 ∷ 5 ∷ []) ∷ [])) ∷ []) (refused numbers.special3) ∷
     difference cop2_loads_and_stores (narrow 0xc8000000)
-    (all_with (op one_of_lem (50 ∷ 54 ∷ 58 ∷ 62 ∷ []) ∷ []) ∷ []) (refused numbers.op) ∷
+    (all_with (op one_of (50 ∷ 54 ∷ 58 ∷ 62 ∷ []) ∷ []) ∷ []) (refused numbers.op) ∷
     []
 
 -- ── both define it, the reading differs or leaves a field out ──
@@ -238,37 +238,37 @@ refused_words =
 unfoldable pub other_readings : List Difference
 other_readings =
     difference rotrv_as_srlv (narrow 0x00000046)
-    (all_with (special (only 6) (sa one_of_lem only 1 ∷ [])) ∷ []) (reading_as (only kind.srlv) rd_rt_rs) ∷
+    (all_with (special (only 6) (sa one_of only 1 ∷ [])) ∷ []) (reading_as (only kind.srlv) rd_rt_rs) ∷
     difference drotrv_as_dsrlv (wide 0x00000056)
-    (all_with (special (only 22) (sa one_of_lem only 1 ∷ [])) ∷ []) (reading_as (only kind.dsrlv) rd_rt_rs) ∷
+    (all_with (special (only 22) (sa one_of only 1 ∷ [])) ∷ []) (reading_as (only kind.dsrlv) rd_rt_rs) ∷
     difference drotr_as_dsrl (wide 0x0020003a)
-    (all_with (special (only 58) (rs one_of_lem only 1 ∷ [])) ∷ []) (reading_as (only kind.dsrl) rd_rt_sa) ∷
+    (all_with (special (only 58) (rs one_of only 1 ∷ [])) ∷ []) (reading_as (only kind.dsrl) rd_rt_sa) ∷
     difference drotr32_as_dsrl32 (wide 0x0020003e)
-    (all_with (special (only 62) (rs one_of_lem only 1 ∷ [])) ∷ []) (reading_as (only kind.dsrl32) rd_rt_sa) ∷
+    (all_with (special (only 62) (rs one_of only 1 ∷ [])) ∷ []) (reading_as (only kind.dsrl32) rd_rt_sa) ∷
     difference ehb_as_sll (narrow 0x000000c0)
-    (all_with (special (only 0) (clear rs ∷ clear rt ∷ clear rd ∷ sa one_of_lem only 3 ∷ [])) ∷ [])
+    (all_with (special (only 0) (clear rs ∷ clear rt ∷ clear rd ∷ sa one_of only 3 ∷ [])) ∷ [])
     (reading_as (only kind.sll) rd_rt_sa) ∷
     difference pause_as_sll (narrow 0x00000140)
-    (all_with (special (only 0) (clear rs ∷ clear rt ∷ clear rd ∷ sa one_of_lem only 5 ∷ [])) ∷ [])
+    (all_with (special (only 0) (clear rs ∷ clear rt ∷ clear rd ∷ sa one_of only 5 ∷ [])) ∷ [])
     (reading_as (only kind.sll) rd_rt_sa) ∷
-    difference jr_hb_as_jr (narrow 0x00000408) (all_with (special (only 8) (clear rt ∷ clear rd ∷ sa one_of_lem only 16 ∷
+    difference jr_hb_as_jr (narrow 0x00000408) (all_with (special (only 8) (clear rt ∷ clear rd ∷ sa one_of only 16 ∷
     [])) ∷ []) (reading_as (only kind.jr) one_rs) ∷
     difference jalr_hb_as_jalr (narrow 0x00000c09)
-    (words either (special (only 9) (clear rt ∷ sa one_of_lem only 16 ∷ [])) (fails rs_is_rd ∷ []) ∷ [])
+    (words either (special (only 9) (clear rt ∷ sa one_of only 16 ∷ [])) (fails rs_is_rd ∷ []) ∷ [])
     (reading_as (only kind.jalr) link) ∷
     difference sync_stype (narrow 0x0000004f)
     (all_with (special (only 15) (clear rs ∷ clear rt ∷ clear rd ∷ set sa ∷ [])) ∷ [])
     (drops Stype) ∷
     difference cop0_sel (narrow 0x40000001)
-    (all_with (cop0_rs (0 ∷ 4 ∷ []) (clear sa ∷ funct one_of_lem (1 to 7) ∷ [])) ∷ [])
+    (all_with (cop0_rs (0 ∷ 4 ∷ []) (clear sa ∷ funct one_of (1 to 7) ∷ [])) ∷ [])
     (drops Sel) ∷
-    difference branch_cc (narrow 0x45040000) (all_with (cop1_rs (only 8) (rt one_of_lem (4 to 31) ∷ [])) ∷ []) (drops Cc) ∷
+    difference branch_cc (narrow 0x45040000) (all_with (cop1_rs (only 8) (rt one_of (4 to 31) ∷ [])) ∷ []) (drops Cc) ∷
     difference compare_cc (narrow 0x46000132)
-    (all_with (float single_double (50 ∷ 60 ∷ 62 ∷ []) (sa one_of_lem ending_in 0 ∷ set sa ∷ [])) ∷ [])
+    (all_with (float single_double (50 ∷ 60 ∷ 62 ∷ []) (sa one_of ending_in 0 ∷ set sa ∷ [])) ∷ [])
     (drops Cc) ∷
     difference control_register_as_float (narrow 0x44400000)
-    (all_with (cop1_rs (only 2) (rd one_of_lem (0 ∷ 25 ∷ 26 ∷ 28 ∷ 31 ∷ []) ∷ clear sa ∷ clear funct ∷ [])) ∷
-    all_with (cop1_rs (only 6) (rd one_of_lem (25 ∷ 26 ∷ 28 ∷ 31 ∷ []) ∷ clear sa ∷ clear funct ∷ [])) ∷
+    (all_with (cop1_rs (only 2) (rd one_of (0 ∷ 25 ∷ 26 ∷ 28 ∷ 31 ∷ []) ∷ clear sa ∷ clear funct ∷ [])) ∷
+    all_with (cop1_rs (only 6) (rd one_of (25 ∷ 26 ∷ 28 ∷ 31 ∷ []) ∷ clear sa ∷ clear funct ∷ [])) ∷
     [])
     (reading_as (kind.cfc1 ∷ kind.ctc1 ∷ []) rt_fs) ∷
     difference hardware_register_as_number (narrow 0x7c00003b)
@@ -286,9 +286,9 @@ other_readings =
     [])
     (drops Code) ∷
     difference wait_code (narrow 0x42000060)
-    (all_with (cop0_rs (only 16) (funct one_of_lem only 32 ∷ set rt ∷ [])) ∷
-    all_with (cop0_rs (only 16) (funct one_of_lem only 32 ∷ set rd ∷ [])) ∷
-    all_with (cop0_rs (only 16) (funct one_of_lem only 32 ∷ set sa ∷ [])) ∷
+    (all_with (cop0_rs (only 16) (funct one_of only 32 ∷ set rt ∷ [])) ∷
+    all_with (cop0_rs (only 16) (funct one_of only 32 ∷ set rd ∷ [])) ∷
+    all_with (cop0_rs (only 16) (funct one_of only 32 ∷ set sa ∷ [])) ∷
     [])
     (drops Code) ∷
     difference bgez_zero_as_b (narrow 0x04010000)
@@ -315,10 +315,10 @@ unfoldable pub reserved_words : List Difference
 reserved_words =
     difference shift_with_rs (narrow 0x00200000)
     (all_with (special (0 ∷ 3 ∷ 56 ∷ 59 ∷ 60 ∷ 63 ∷ []) (set rs ∷ [])) ∷ all_with (special (2 ∷ 58 ∷ 62 ∷
-    []) (rs one_of_lem (2 to 31) ∷ [])) ∷ [])
+    []) (rs one_of (2 to 31) ∷ [])) ∷ [])
     (reading_as shifts_by_constant rd_rt_sa) ∷
     difference variable_shift_with_sa (narrow 0x00000044)
-    (all_with (special (4 ∷ 7 ∷ 20 ∷ 23 ∷ []) (set sa ∷ [])) ∷ all_with (special (6 ∷ 22 ∷ []) (sa one_of_lem (2 to 31) ∷
+    (all_with (special (4 ∷ 7 ∷ 20 ∷ 23 ∷ []) (set sa ∷ [])) ∷ all_with (special (6 ∷ 22 ∷ []) (sa one_of (2 to 31) ∷
     [])) ∷ [])
     (reading_as variable_shifts rd_rt_rs) ∷
     difference three_registers_with_sa (narrow 0x0000004a)
@@ -342,7 +342,7 @@ reserved_words =
     (all_with (special (only 9) (set rt ∷ [])) ∷ all_with (special (only 9) (sa none_of (0 ∷ 16 ∷ []) ∷ [])) ∷ [])
     (reading_as (only kind.jalr) link) ∷
     difference jalr_same_register (narrow 0x00000009)
-    (words either (special (only 9) (clear rt ∷ sa one_of_lem (0 ∷ 16 ∷ []) ∷ [])) (holds rs_is_rd ∷ []) ∷ [])
+    (words either (special (only 9) (clear rt ∷ sa one_of (0 ∷ 16 ∷ []) ∷ [])) (holds rs_is_rd ∷ []) ∷ [])
     (reading_as (only kind.jalr) link) ∷
     difference sync_with_zero_bits_set (narrow 0x0000080f)
     (all_with (special (only 15) (set rs ∷ [])) ∷ all_with (special (only 15) (set rt ∷ [])) ∷
@@ -364,20 +364,20 @@ reserved_words =
     (all_with (special (24 to 31) (set rd ∷ [])) ∷ all_with (special (24 to 31) (set sa ∷ [])) ∷ [])
     (reading_as multiply_divide rs_rt) ∷
     difference link_branch_on_31 (narrow 0x07f00000)
-    (all_with (regimm (16 ∷ 17 ∷ []) (rs one_of_lem only 31 ∷ [])) ∷ [])
+    (all_with (regimm (16 ∷ 17 ∷ []) (rs one_of only 31 ∷ [])) ∷ [])
     (reading_as (kind.bltzal ∷ kind.bgezal ∷ []) rs_offset) ∷
     difference blez_with_rt (narrow 0x18010000)
-    (all_with (op one_of_lem (6 ∷ 7 ∷ 22 ∷ 23 ∷ []) ∷ set rt ∷ []) ∷ [])
+    (all_with (op one_of (6 ∷ 7 ∷ 22 ∷ 23 ∷ []) ∷ set rt ∷ []) ∷ [])
     (reading_as (kind.blez ∷ kind.bgtz ∷ kind.blezl ∷ kind.bgtzl ∷ []) rs_offset) ∷
     difference lui_with_rs (narrow 0x3c200000)
-    (all_with (op one_of_lem only 15 ∷ set rs ∷ []) ∷ []) (reading_as (only kind.lui) rt_uimm) ∷
+    (all_with (op one_of only 15 ∷ set rs ∷ []) ∷ []) (reading_as (only kind.lui) rt_uimm) ∷
     difference cop0_move_with_zero_bits_set (narrow 0x40000008)
     (all_with (cop0_rs (0 ∷ 4 ∷ []) (set sa ∷ [])) ∷ all_with (cop0_rs (0 ∷ 4 ∷ []) (funct none_of (0 to 7) ∷ [])) ∷ [])
     (reading_as (kind.mfc0 ∷ kind.mtc0 ∷ []) rt_cop0) ∷
     difference eret_with_zero_bits_set (narrow 0x42000058)
-    (all_with (cop0_rs (only 16) (funct one_of_lem only 24 ∷ set rt ∷ [])) ∷
-    all_with (cop0_rs (only 16) (funct one_of_lem only 24 ∷ set rd ∷ [])) ∷
-    all_with (cop0_rs (only 16) (funct one_of_lem only 24 ∷ set sa ∷ [])) ∷
+    (all_with (cop0_rs (only 16) (funct one_of only 24 ∷ set rt ∷ [])) ∷
+    all_with (cop0_rs (only 16) (funct one_of only 24 ∷ set rd ∷ [])) ∷
+    all_with (cop0_rs (only 16) (funct one_of only 24 ∷ set sa ∷ [])) ∷
     [])
     (reading_as (only kind.eret) no_operands) ∷
     difference cop1_move_with_zero_bits_set (narrow 0x44000001)
@@ -425,20 +425,20 @@ reserved_words =
     difference ins_size_below_1 (narrow 0x7c000044)
     (words either (special3 (only 4) []) (fails ordered ∷ []) ∷ []) (reading_as (only kind.ins) ins_pos_size) ∷
     difference swap_extend_with_rs (narrow 0x7c2000a0)
-    (all_with (special3 (only 32) (set rs ∷ sa one_of_lem (2 ∷ 16 ∷ 24 ∷ []) ∷ [])) ∷ [])
+    (all_with (special3 (only 32) (set rs ∷ sa one_of (2 ∷ 16 ∷ 24 ∷ []) ∷ [])) ∷ [])
     (reading_as (kind.wsbh ∷ kind.seb ∷ kind.seh ∷ []) rd_rt) ∷
     difference rdhwr_with_zero_bits_set (narrow 0x7c00007b)
     (all_with (special3 (only 59) (set rs ∷ [])) ∷ all_with (special3 (only 59) (set sa ∷ [])) ∷ [])
     (reading_as (only kind.rdhwr) rt_hwr) ∷
     difference no_such_hardware_register (narrow 0x7c00203b)
-    (all_with (special3 (only 59) (clear rs ∷ rd one_of_lem (4 to 28) ∷ clear sa ∷ [])) ∷ [])
+    (all_with (special3 (only 59) (clear rs ∷ rd one_of (4 to 28) ∷ clear sa ∷ [])) ∷ [])
     (reading_as (only kind.rdhwr) rt_hwr) ∷
     difference mips64_without_flag (narrow 0x00000014)
     (narrow_with (special (20 ∷ 22 ∷ 23 ∷ 44 to 47) (clear sa ∷ [])) ∷
     narrow_with (special (28 to 31) (clear rd ∷ clear sa ∷ [])) ∷
     narrow_with (special (56 ∷ 58 ∷ 59 ∷ 60 ∷ 62 ∷ 63 ∷ []) (clear rs ∷ [])) ∷
     narrow_with (cop1_rs (1 ∷ 5 ∷ []) (clear sa ∷ clear funct ∷ [])) ∷
-    narrow_with (op one_of_lem (24 to 27 ++ 39 ∷ 44 ∷ 45 ∷ 52 ∷ 55 ∷ 60 ∷ 63 ∷ []) ∷ []) ∷
+    narrow_with (op one_of (24 to 27 ++ 39 ∷ 44 ∷ 45 ∷ 52 ∷ 55 ∷ 60 ∷ 63 ∷ []) ∷ []) ∷
     [])
     (reads
     (sort (kind.dsllv ∷ kind.dsrlv ∷ kind.dsrav ∷ []) rd_rt_rs ∷

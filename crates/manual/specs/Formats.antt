@@ -161,34 +161,34 @@ dinsu_pos_size = single (gpr Rt ∷ gpr Rs ∷ plus 32 Lsb ∷ span 0 Msb Lsb �
 
 -- two lines, of which the shorter implies a value: rt, cc, sel, stype 0, rd 31
 abbrev pub rt_alone : List Format
-rt_alone = two (rt one_of_lem only 0 ∷ []) [] (gpr Rt ∷ [])
+rt_alone = two (rt one_of only 0 ∷ []) [] (gpr Rt ∷ [])
 
 abbrev pub cc_offset : List Format
-cc_offset = two (rt one_of_lem (0 to 3) ∷ []) (pc_relative ∷ []) (unsigned Cc ∷ pc_relative ∷ [])
+cc_offset = two (rt one_of (0 to 3) ∷ []) (pc_relative ∷ []) (unsigned Cc ∷ pc_relative ∷ [])
 
 abbrev pub cc_fs_ft : List Format
-cc_fs_ft = two (sa one_of_lem only 0 ∷ []) (fpr Fs ∷ fpr Ft ∷ []) (unsigned Cc ∷ fpr Fs ∷ fpr Ft ∷ [])
+cc_fs_ft = two (sa one_of only 0 ∷ []) (fpr Fs ∷ fpr Ft ∷ []) (unsigned Cc ∷ fpr Fs ∷ fpr Ft ∷ [])
 
 abbrev pub rt_rd_sel : List Format
-rt_rd_sel = two (funct one_of_lem only 0 ∷ []) (gpr Rt ∷ cp0 Rd ∷ []) (gpr Rt ∷ cp0 Rd ∷ unsigned Sel ∷ [])
+rt_rd_sel = two (funct one_of only 0 ∷ []) (gpr Rt ∷ cp0 Rd ∷ []) (gpr Rt ∷ cp0 Rd ∷ unsigned Sel ∷ [])
 
 abbrev pub stype_alone : List Format
-stype_alone = two (sa one_of_lem only 0 ∷ []) [] (unsigned Stype ∷ [])
+stype_alone = two (sa one_of only 0 ∷ []) [] (unsigned Stype ∷ [])
 
 abbrev pub link_rs : List Format
-link_rs = line_for (rd one_of_lem only 31 ∷ []) (gpr Rs ∷ []) ∷ line_for (rd none_of only 31 ∷ []) (gpr Rd ∷ gpr Rs ∷ []) ∷
+link_rs = line_for (rd one_of only 31 ∷ []) (gpr Rs ∷ []) ∷ line_for (rd none_of only 31 ∷ []) (gpr Rd ∷ gpr Rs ∷ []) ∷
     []
 
 -- the page has a code that its Format line does not: zero if nothing is to be left out
 abbrev pub code20 : List Format
-code20 = two (rs one_of_lem only 0 ∷ rt one_of_lem only 0 ∷ rd one_of_lem only 0 ∷ sa one_of_lem only 0 ∷ []) [] []
+code20 = two (rs one_of only 0 ∷ rt one_of only 0 ∷ rd one_of only 0 ∷ sa one_of only 0 ∷ []) [] []
 
 -- rs is then the CO bit alone
 abbrev pub code19 : List Format
-code19 = two (rs one_of_lem only 16 ∷ rt one_of_lem only 0 ∷ rd one_of_lem only 0 ∷ sa one_of_lem only 0 ∷ []) [] []
+code19 = two (rs one_of only 16 ∷ rt one_of only 0 ∷ rd one_of only 0 ∷ sa one_of only 0 ∷ []) [] []
 
 abbrev pub rs_rt_code10 : List Format
-rs_rt_code10 = two (rd one_of_lem only 0 ∷ sa one_of_lem only 0 ∷ []) (gpr Rs ∷ gpr Rt ∷ []) (gpr Rs ∷ gpr Rt ∷ [])
+rs_rt_code10 = two (rd one_of only 0 ∷ sa one_of only 0 ∷ []) (gpr Rs ∷ gpr Rt ∷ []) (gpr Rs ∷ gpr Rt ∷ [])
 
 -- ── Restrictions ──
 
@@ -204,17 +204,17 @@ rs_not_31 = rules (rs none_of only 31 ∷ []) []
 
 -- the hint is 0, or 16 with the hazard barrier; other values have no meaning in release 2
 abbrev pub hint_0 : Rules
-hint_0 = rules (sa one_of_lem only 0 ∷ []) []
+hint_0 = rules (sa one_of only 0 ∷ []) []
 
 abbrev pub hint_16 : Rules
-hint_16 = rules (sa one_of_lem only 16 ∷ []) []
+hint_16 = rules (sa one_of only 16 ∷ []) []
 
 -- and rs and rd must not be equal: the jump could not be restarted
 abbrev pub hint_0_rs_not_rd : Rules
-hint_0_rs_not_rd = rules (sa one_of_lem only 0 ∷ []) (fails rs_is_rd ∷ [])
+hint_0_rs_not_rd = rules (sa one_of only 0 ∷ []) (fails rs_is_rd ∷ [])
 
 abbrev pub hint_16_rs_not_rd : Rules
-hint_16_rs_not_rd = rules (sa one_of_lem only 16 ∷ []) (fails rs_is_rd ∷ [])
+hint_16_rs_not_rd = rules (sa one_of only 16 ∷ []) (fails rs_is_rd ∷ [])
 
 -- the number in rd must be placed in rt too
 abbrev pub rt_same_as_rd : Rules
@@ -230,18 +230,18 @@ size_positive = rules [] (holds ordered ∷ [])
 
 -- fs is a control register that can be read: FIR, FCCR, FEXR, FENR, FCSR
 abbrev pub readable_control : Rules
-readable_control = rules (rd one_of_lem (0 ∷ 25 ∷ 26 ∷ 28 ∷ 31 ∷ []) ∷ []) []
+readable_control = rules (rd one_of (0 ∷ 25 ∷ 26 ∷ 28 ∷ 31 ∷ []) ∷ []) []
 
 -- or written: FIR cannot be
 abbrev pub writable_control : Rules
-writable_control = rules (rd one_of_lem (25 ∷ 26 ∷ 28 ∷ 31 ∷ []) ∷ []) []
+writable_control = rules (rd one_of (25 ∷ 26 ∷ 28 ∷ 31 ∷ []) ∷ []) []
 
 -- in the paired-single format cc is even: two conditions are tested or set. Its column has two bits more below it
 abbrev pub even_cc_in_rt : Rules
-even_cc_in_rt = rules (rt one_of_lem (0 ∷ 1 ∷ 8 ∷ 9 ∷ 16 ∷ 17 ∷ 24 ∷ 25 ∷ []) ∷ []) []
+even_cc_in_rt = rules (rt one_of (0 ∷ 1 ∷ 8 ∷ 9 ∷ 16 ∷ 17 ∷ 24 ∷ 25 ∷ []) ∷ []) []
 
 abbrev pub even_cc_in_sa : Rules
-even_cc_in_sa = rules (sa one_of_lem (0 ∷ 8 ∷ 16 ∷ 24 ∷ []) ∷ []) []
+even_cc_in_sa = rules (sa one_of (0 ∷ 8 ∷ 16 ∷ 24 ∷ []) ∷ []) []
 
 -- rd is one of the hardware registers: CPUNum, SYNCI_Step, CC, CCRes, and from 29 on those of the system and the
 -- implementation

@@ -215,7 +215,7 @@ one_above k (v ∷ u ∷ vs) = eqb (v / 2 ^ k) (u / 2 ^ k) && one_above k (u ∷
 -- the tests leave one value in the column, but for this many low bits
 unfoldable pub implied : List Test → ℕ → Field → Bool
 implied [] k x = false
-implied (y one_of_lem vs ∷ ts) k x = (same_field y x && one_above k vs) || implied ts k x
+implied (y one_of vs ∷ ts) k x = (same_field y x && one_above k vs) || implied ts k x
 implied (y none_of vs ∷ ts) k x = implied ts k x
 
 -- the Restrictions want rt to be what rd is

@@ -9,24 +9,24 @@ use Rattle.section.proofs.Good.{turn}
 use Rattle.section.proofs.good_entries.Statement.{statement}
 use Rattle.section.proofs.good_entries.Tie as tie
 
-abbrev invariant-loop : tie.invariant-loop
-invariant-loop file count n₀ free₀ n free =
+abbrev invariant-loop-n : tie.invariant-loop-n
+invariant-loop-n file count n₀ free₀ n free =
     (n ≤ count) × (good_from file (count - n) n free ≡ good_from file count 0 (entry_at count))
 
-abbrev decreases-loop : tie.decreases-loop
-decreases-loop file count n₀ free₀ n free = count - n
+abbrev decreases-loop-n : tie.decreases-loop-n
+decreases-loop-n file count n₀ free₀ n free = count - n
 
-loop-holds : tie.Need-loop-init invariant-loop decreases-loop
-loop-holds c = (omega arith, rw (sub-zero, c.entry_at.ensures))
+loop-n-init : tie.Need-loop-n-init invariant-loop-n decreases-loop-n
+loop-n-init c = (omega arith, rw (sub-zero, c.entry_at-free.ensures))
 
 -- the check of what is left, once that of this entry has answered b
-turned : (c : tie.After-good-entry invariant-loop decreases-loop) (b : Bool) → c.good-entry.result ≡ b →
+turned : (c : tie.After-good_entry invariant-loop-n decreases-loop-n) (b : Bool) → c.good_entry.result ≡ b →
     let long = c.before in
     let offset = long.before in
     let l = offset.before.before in
     let a = l.before.before.before.args in
-    (b && good_from a.file.now (a.count - (l.loop.n + 1)) (l.loop.n + 1)
-    (offset.number_in.result + long.number-in2.result)) ≡
+    (b && good_from a.file.now (a.count - (l.loop-n.n + 1)) (l.loop-n.n + 1)
+    (offset.number_in-at.result + long.number_in-size.result)) ≡
     good_from a.file.now a.count 0 (entry_at a.count)
 turned c b e =
     let long = c.before in
@@ -34,32 +34,32 @@ turned c b e =
     let t = offset.before in
     let l = t.before in
     let a = l.before.before.before.args in
-    turn a.file.now a.count l.loop.n l.loop.free
-    offset.number_in.result long.number-in2.result c.good-entry.result t.loop-test.true
-    offset.number_in.ensures.0 long.number-in2.ensures.0 c.good-entry.ensures b e
-    ∙ l.loop.invariant.1
+    turn a.file.now a.count l.loop-n.n l.loop-n.free
+    offset.number_in-at.result long.number_in-size.result c.good_entry.result t.loop-n-test.true
+    offset.number_in-at.ensures.0 long.number_in-size.ensures.0 c.good_entry.ensures b e
+    ∙ l.loop-n.invariant.1
 
-returns : tie.Need-returns invariant-loop decreases-loop
-returns c = turned c.before false (not-true _ c.if1.true)
+returns-then-not-good_entry : tie.Need-returns-then-not-good_entry invariant-loop-n decreases-loop-n
+returns-then-not-good_entry c = turned c.before false (not-true _ c.if-not-good_entry.true)
 
-loop-again : tie.Need-loop-preserved invariant-loop decreases-loop
-loop-again c = (omega arith, turned c.before true (not-false _ c.if1.false))
+loop-n-preserved : tie.Need-loop-n-preserved invariant-loop-n decreases-loop-n
+loop-n-preserved c = (omega arith, turned c.before true (not-false _ c.if-not-good_entry.false))
 
-returns-2 : tie.Need-returns-2 invariant-loop decreases-loop
+returns : tie.Need-returns invariant-loop-n decreases-loop-n
 unfolding good_from
-returns-2 c =
+returns c =
     let l = c.before in
-    let e : l.before.before.before.args.count - l.loop.n ≡ 0 = omega arith in
-    (rw e at l.loop.invariant.1)
+    let e : l.before.before.before.args.count - l.loop-n.n ≡ 0 = omega arith in
+    (rw e at l.loop-n.invariant.1)
 
-pub good-entries-spec : {M : Type 1} → statement M
-good-entries-spec = tie.close (tie.spec
-    invariant-loop
-    decreases-loop
+pub good_entries_spec : {M : Type 1} → statement M
+good_entries_spec = tie.close (tie.spec
+    invariant-loop-n
+    decreases-loop-n
     (λ c κs. omega arith)
-    loop-holds
+    loop-n-init
     (λ c κs. omega arith) (λ c κs. omega arith) (λ c κs. omega arith)
-    returns
+    returns-then-not-good_entry
     (λ c. omega arith) (λ c. omega arith) (λ c. omega arith)
-    loop-again
-    returns-2)
+    loop-n-preserved
+    returns)

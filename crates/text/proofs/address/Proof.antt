@@ -11,26 +11,26 @@ use Rattle.text.proofs.address.Statement.{statement}
 use Rattle.text.proofs.address.Tie as tie
 
 -- the room after `0x` is written before the numeral
-abbrev room : tie.After-spell → List ℕ
-room w = let s = w.spell.result - 2 in set (set w.spell.new.1.1.0 s 48) (s + 1) 120
+abbrev room : tie.After-spell-start → List ℕ
+room w = let s = w.spell-start.result - 2 in set (set w.spell-start.new.b s 48) (s + 1) 120
 
-long : (w : tie.After-spell) → length (room w) ≡ 22
-long w = simp length-set w.spell.ensures.2
+long : (w : tie.After-spell-start) → length (room w) ≡ 22
+long w = simp length-set w.spell-start.ensures.2
 
-text : (w : tie.After-spell) → drop (w.spell.result - 2) (room w) ≡ address_of w.before.before.before.args.a
+text : (w : tie.After-spell-start) → drop (w.spell-start.result - 2) (room w) ≡ address_of w.before.before.before.args.a
 unfolding address_of
 text w =
-    let s = w.spell.result - 2 in
-    let b = w.spell.new.1.1.0 in
-    let e : s + 2 ≡ w.spell.result = omega arith in
-    rw add-one (stored (48 ∷ 120 ∷ []) b s (omega arith) ∙ ap (λ (l : List ℕ). 48 ∷ 120 ∷ l) (ap (λ (m : ℕ). drop m b) e ∙ w.spell.ensures.3))
+    let s = w.spell-start.result - 2 in
+    let b = w.spell-start.new.b in
+    let e : s + 2 ≡ w.spell-start.result = omega arith in
+    rw add-one (stored (48 ∷ 120 ∷ []) b s (omega arith) ∙ ap (λ (l : List ℕ). 48 ∷ 120 ∷ l) (ap (λ (m : ℕ). drop m b) e ∙ w.spell-start.ensures.3))
 
 returns : tie.Need-returns
 returns c =
     let v = c.before.before.before in
     let w = v.before.before.before in
     let a = w.before.before.before.args in
-    tail_put 22 (w.spell.result - 2) a.at (room w) (address_of a.a) a.out.now (long w) (text w)
+    tail_put 22 (w.spell-start.result - 2) a.at (room w) (address_of a.a) a.out.now (long w) (text w)
     c.before.before.put.ensures
 
 pub address_spec : {M : Type 1} → statement M

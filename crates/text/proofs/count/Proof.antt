@@ -9,8 +9,8 @@ returns c =
     let v = c.before.before.before in
     let w = v.before.before.before in
     let a = w.before.before.before.args in
-    tail_put 22 w.spell.result a.at w.spell.new.1.1.0 (numeral_of 10 a.n) a.out.now
-    w.spell.ensures.2 w.spell.ensures.3 c.before.before.put.ensures
+    tail_put 22 w.spell-start.result a.at w.spell-start.new.b (numeral_of 10 a.n) a.out.now
+    w.spell-start.ensures.2 w.spell-start.ensures.3 c.before.before.put.ensures
 
 pub count_spec : {M : Type 1} → statement M
 count_spec = tie.close (tie.spec

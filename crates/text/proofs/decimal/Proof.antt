@@ -28,15 +28,15 @@ without (pos n) e = refl
 without (negsuc n) e = let z : ◌≡◌ {A = Bool} true false = e in absurd (subst T z tt)
 
 -- where the function starts
-abbrev start : tie.After-spell → tie.Start
+abbrev start : tie.After-spell-start → tie.Start
 start w = let m = w.before.before in m.before.before
 
 -- the numeral is that of how far x is from 0
-numeral : (w : tie.After-spell) →
-    drop w.spell.result w.spell.new.1.1.0 ≡ numeral_of 10 (nat_abs (start w).args.x)
+numeral : (w : tie.After-spell-start) →
+    drop w.spell-start.result w.spell-start.new.b ≡ numeral_of 10 (nat_abs (start w).args.x)
 numeral w =
     let s = start w in
-    w.spell.ensures.3 ∙ ap (numeral_of 10) (w.before.before.magnitude.ensures ∙ ap nat_abs (to_z-of_z s.fits.x))
+    w.spell-start.ensures.3 ∙ ap (numeral_of 10) (w.before.before.magnitude.ensures ∙ ap nat_abs (to_z-of_z s.fits.x))
 
 -- where the text starts, and the room that it ends
 record Text (start : ℕ) (b : List ℕ) (z : ℤ) : Type 0 where
@@ -44,26 +44,26 @@ record Text (start : ℕ) (b : List ℕ) (z : ℤ) : Type 0 where
   long : length b ≡ 22
   text : drop start b ≡ decimal_of z
 
-joined : (j : tie.Joined1) → Text j.if1.start j.if1.b (start j.before).args.x
+joined : (j : tie.Joined-x-lt0) → Text j.if-x-lt0.start j.if-x-lt0.b-1 (start j.before).args.x
 joined j =
     let w = j.before in
     let s = start w in
-    let r = w.spell.result in
-    let b = w.spell.new.1.1.0 in
+    let r = w.spell-start.result in
+    let b = w.spell-start.new.b in
     let e : r - 1 + 1 ≡ r = omega arith in
     let minus = stored (45 ∷ []) b (r - 1) (omega arith) ∙ ap (λ (l : List ℕ). 45 ∷ l) (ap (λ (m : ℕ). drop m b) e ∙ numeral w) in
     ⊎_elim
     (λ t. rw (t.1, t.2) (record {
       low = omega arith;
-      long = simp length-set w.spell.ensures.2;
+      long = simp length-set w.spell-start.ensures.2;
       text = minus ∙ with-sign s.args.x (rw (to_z-of_z s.fits.x) at t.0.taken);
     }))
     (λ t. rw (t.1, t.2) (record {
-      low = w.spell.ensures.1;
-      long = w.spell.ensures.2;
+      low = w.spell-start.ensures.1;
+      long = w.spell-start.ensures.2;
       text = numeral w ∙ without s.args.x (rw (to_z-of_z s.fits.x) at t.0.left);
     }))
-    j.if1.branch
+    j.if-x-lt0.branch
 
 returns : tie.Need-returns
 returns c =
@@ -71,11 +71,11 @@ returns c =
     let w = v.before.before.before in
     let j = w.before in
     let a = (start j.before).args in
-    tail_put 22 j.if1.start a.at j.if1.b (decimal_of a.x) a.out.now (joined j).long (joined j).text
+    tail_put 22 j.if-x-lt0.start a.at j.if-x-lt0.b-1 (decimal_of a.x) a.out.now (joined j).long (joined j).text
     c.before.before.put.ensures
 
-pub decimal-spec : {M : Type 1} → statement M
-decimal-spec = tie.close (tie.spec
+pub decimal_spec : {M : Type 1} → statement M
+decimal_spec = tie.close (tie.spec
     (λ c κs. search rules) (λ c κs. search rules) (λ c. search rules) (λ c. search rules)
     (λ c. (joined c.before).low)
     (λ c. (joined c.before.before).low)

@@ -3,8 +3,8 @@ use borrow.Author.Tests.{lt-ltb, le-ltb}
 use Rattle.text.proofs.glyph.Statement.{statement}
 use Rattle.text.proofs.glyph.Tie as tie
 
-pub glyph-spec : {M : Type 1} → statement M
-glyph-spec = tie.close (tie.spec
+pub glyph_spec : {M : Type 1} → statement M
+glyph_spec = tie.close (tie.spec
     (λ c. search rules) (λ c. search rules) (λ c. search rules) (λ c. search rules) (λ c. search rules)
-    (λ c. rw (lt-ltb _ _ c.if1.true))
-    (λ c. rw (le-ltb _ _ c.if1.false)))
+    (λ c. rw (lt-ltb _ _ c.if-d-lt-DECIMAL.true))
+    (λ c. rw (le-ltb _ _ c.if-d-lt-DECIMAL.false)))

@@ -9,11 +9,11 @@ returns c =
     let v = c.before.before.before in
     let w = v.before.before.before in
     let a = w.before.before.args in
-    (tail_put 16 8 a.at w.hex-digits.result (hex_of 8 a.n) a.out.now (search rules) w.hex-digits.ensures
+    (tail_put 16 8 a.at w.hex_digits-b.result (hex_of 8 a.n) a.out.now (search rules) w.hex_digits-b.ensures
     c.before.before.put.ensures).1
 
-pub hex8-spec : {M : Type 1} → statement M
-hex8-spec = tie.close (tie.spec
+pub hex8_spec : {M : Type 1} → statement M
+hex8_spec = tie.close (tie.spec
     (λ c κs. search rules) (λ c. search rules) (λ c. search rules) (λ c. search rules) (λ c κs. search rules)
     (λ c. search rules)
     returns)

@@ -31,17 +31,17 @@ not-below (pos n) e = tt
 not-below (negsuc n) e = let z : ◌≡◌ {A = Bool} true false = e in absurd (subst T z tt)
 
 -- the tests, and what `!x` is
-below : (c : tie.Then1) → lt_z c.before.args.x (pos 0) ≡ true
-below c = rw (to_z-of_z c.before.ranges.x) at c.if1.true
+below : (c : tie.Then-x-lt0) → lt_z c.before.args.x (pos 0) ≡ true
+below c = rw (to_z-of_z c.before.ranges.x) at c.if-x-lt0.true
 
-above : (c : tie.Else1) → lt_z c.before.args.x (pos 0) ≡ false
-above c = rw (to_z-of_z c.before.ranges.x) at c.if1.false
+above : (c : tie.Else-x-lt0) → lt_z c.before.args.x (pos 0) ≡ false
+above c = rw (to_z-of_z c.before.ranges.x) at c.if-x-lt0.false
 
-abbrev flip : (c : tie.Then1) → to_z w64 (18446744073709551615 - of_z w64 c.before.args.x) ≡ pos (mag c.before.args.x)
+abbrev flip : (c : tie.Then-x-lt0) → to_z w64 (18446744073709551615 - of_z w64 c.before.args.x) ≡ pos (mag c.before.args.x)
 flip c = flipped c.before.args.x c.before.ranges.x (below c)
 
-pub magnitude-spec : {M : Type 1} → statement M
-magnitude-spec = tie.close (tie.spec
+pub magnitude_spec : {M : Type 1} → statement M
+magnitude_spec = tie.close (tie.spec
     (λ c. rw (flip c) (tt, record { fits = omega (arith, c.before.ranges.x.sfits) }))
     (λ c. rw (flip c) (record { fits = omega (arith, c.before.ranges.x.sfits) }))
     (λ c. rw (to_z-of_z c.before.ranges.x) (not-below c.before.args.x (above c), Fits-nat_abs {w = w64} {w' = w64} tt c.before.ranges.x))

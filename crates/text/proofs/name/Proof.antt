@@ -17,16 +17,16 @@ returns c =
     let v = c.before.before in
     let w = v.before.before.before in
     let a = w.before.before.before.args in
-    let e : take w.name-length.result a.b.now ≡ before_zero a.b.now =
-    rw w.name-length.ensures (name_front a.b.now) in
-    (w.name-length.ensures, v.put.ensures ∙ ap (λ (l : List ℕ). placed a.at l a.out.now) e)
+    let e : take w.name_length-n.result a.b.now ≡ before_zero a.b.now =
+    rw w.name_length-n.ensures (name_front a.b.now) in
+    (w.name_length-n.ensures, v.put.ensures ∙ ap (λ (l : List ℕ). placed a.at l a.out.now) e)
 
-pub name-spec : {M : Type 1} → statement M
-name-spec = tie.close (tie.spec
+pub name_spec : {M : Type 1} → statement M
+name_spec = tie.close (tie.spec
     (λ c κs. search rules)
     (λ c.
     let w = c.before in
     let b = w.before.before.before.args.b.now in
-    sym (length-take-le w.name-length.result b (omega (arith, name_most b))))
+    sym (length-take-le w.name_length-n.result b (omega (arith, name_most b))))
     (λ c κs. search rules) (λ c. search rules)
     returns)

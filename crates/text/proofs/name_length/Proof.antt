@@ -10,40 +10,40 @@ use Rattle.text.proofs.Names.{ends, stops, letter}
 use Rattle.text.proofs.name_length.Statement.{statement}
 use Rattle.text.proofs.name_length.Tie as tie
 
-abbrev invariant-loop : tie.invariant-loop
-invariant-loop b n₀ n = (n ≤ length b) × (n + length (before_zero (drop n b)) ≡ length (before_zero b))
+abbrev invariant-loop-n : tie.invariant-loop-n
+invariant-loop-n b n₀ n = (n ≤ length b) × (n + length (before_zero (drop n b)) ≡ length (before_zero b))
 
-abbrev decreases-loop : tie.decreases-loop
-decreases-loop b n₀ n = length b - n
+abbrev decreases-loop-n : tie.decreases-loop-n
+decreases-loop-n b n₀ n = length b - n
 
-loop-again : tie.Need-loop-preserved invariant-loop decreases-loop
-loop-again c =
+loop-n-preserved : tie.Need-loop-n-preserved invariant-loop-n decreases-loop-n
+loop-n-preserved c =
     let w = c.before.before.before in
-    let l = w.loop in
+    let l = w.loop-n in
     let b = w.before.args.b.now in
-    (omega arith, rw add-one (omega (arith, letter l.n b (omega arith) c.if1.false, l.invariant.1)))
+    (omega arith, rw add-one (omega (arith, letter l.n b (omega arith) c.if-b-n-eq0.false, l.invariant.1)))
 
-returns : tie.Need-returns invariant-loop decreases-loop
-returns c =
-    let l = c.before.loop in
+returns-after-loop-n : tie.Need-returns-after-loop-n invariant-loop-n decreases-loop-n
+returns-after-loop-n c =
+    let l = c.before.loop-n in
     let b = c.before.before.args.b.now in
     omega (arith, ends (drop l.n b) (drop_of_length-le b {i = l.n} (omega arith)), l.invariant.1)
 
-returns-2 : tie.Need-returns-2 invariant-loop decreases-loop
-returns-2 c =
+returns-then-b-n-eq0 : tie.Need-returns-then-b-n-eq0 invariant-loop-n decreases-loop-n
+returns-then-b-n-eq0 c =
     let w = c.before.before.before in
-    let l = w.loop in
+    let l = w.loop-n in
     let b = w.before.args.b.now in
-    omega (arith, stops l.n b (omega arith) c.if1.true, l.invariant.1)
+    omega (arith, stops l.n b (omega arith) c.if-b-n-eq0.true, l.invariant.1)
 
-pub name-length-spec : {M : Type 1} → statement M
-name-length-spec = tie.close (tie.spec
-    invariant-loop
-    decreases-loop
+pub name_length_spec : {M : Type 1} → statement M
+name_length_spec = tie.close (tie.spec
+    invariant-loop-n
+    decreases-loop-n
     (λ c. (omega arith, zero-add _))
     (λ c. omega arith)
     (λ c. omega arith)
     (λ c. omega arith)
-    loop-again
-    returns
-    returns-2)
+    loop-n-preserved
+    returns-after-loop-n
+    returns-then-b-n-eq0)

@@ -10,51 +10,51 @@ use Rattle.text.proofs.Read.{after_none, one_more, part_below, room, digit_below
 use Rattle.text.proofs.number.Statement.{statement}
 use Rattle.text.proofs.number.Tie as tie
 
-abbrev invariant-loop : tie.invariant-loop
-invariant-loop b at digits value₀ i₀ value i = (i ≤ digits) × (value ≡ hex_after 0 (take i (drop at b)))
+abbrev invariant-loop-i : tie.invariant-loop-i
+invariant-loop-i b at digits value₀ i₀ value i = (i ≤ digits) × (value ≡ hex_after 0 (take i (drop at b)))
 
-abbrev decreases-loop : tie.decreases-loop
-decreases-loop b at digits value₀ i₀ value i = digits - i
+abbrev decreases-loop-i : tie.decreases-loop-i
+decreases-loop-i b at digits value₀ i₀ value i = digits - i
 
 -- there is room for one digit more
-below : (c : tie.In-loop invariant-loop decreases-loop) → 16 * c.before.loop.value + 15 < 2 ^ 64
+below : (c : tie.In-loop-i invariant-loop-i decreases-loop-i) → 16 * c.before.loop-i.value + 15 < 2 ^ 64
 below c =
-    let l = c.before.loop in
+    let l = c.before.loop-i in
     let a = c.before.before.before.args in
     room l.i l.value 15 (omega arith) (rw l.invariant.1 (part_below a.b.now a.at l.i (omega arith)))
     (omega arith)
 
-mul-value : tie.Need-overflow-mul-value invariant-loop decreases-loop
-mul-value c = omega (arith, below c)
+overflow_mul-value : tie.Need-overflow_mul-value invariant-loop-i decreases-loop-i
+overflow_mul-value c = omega (arith, below c)
 
-add-value : tie.Need-overflow-add-value invariant-loop decreases-loop
-add-value c =
+overflow_add-value : tie.Need-overflow_add-value invariant-loop-i decreases-loop-i
+overflow_add-value c =
     let l = c.before.before.before in
     let a = l.before.before.args in
-    omega (arith, below c.before.before, c.digit.ensures, digit_below (get_or a.b.now (a.at + l.loop.i) 0))
+    omega (arith, below c.before.before, c.digit.ensures, digit_below (get_or a.b.now (a.at + l.loop-i.i) 0))
 
-loop-again : tie.Need-loop-preserved invariant-loop decreases-loop
-loop-again c =
+loop-i-preserved : tie.Need-loop-i-preserved invariant-loop-i decreases-loop-i
+loop-i-preserved c =
     let at-loop = c.before.before.before in
-    let l = at-loop.loop in
+    let l = at-loop.loop-i in
     let a = at-loop.before.before.args in
     let more = one_more a.b.now a.at l.i (omega arith) in
     (omega arith, rw add-one (omega (arith, more, l.invariant.1, c.digit.ensures)))
 
-returns : tie.Need-returns invariant-loop decreases-loop
+returns : tie.Need-returns invariant-loop-i decreases-loop-i
 returns c =
-    let l = c.before.loop in
+    let l = c.before.loop-i in
     let e : l.i ≡ c.before.before.before.args.digits = omega arith in
     l.invariant.1 ∙ rw e
 
-pub number-spec : {M : Type 1} → statement M
-number-spec = tie.close (tie.spec
-    invariant-loop
-    decreases-loop
+pub number_spec : {M : Type 1} → statement M
+number_spec = tie.close (tie.spec
+    invariant-loop-i
+    decreases-loop-i
     (λ c. (omega arith, sym (after_none 0)))
-    mul-value
+    overflow_mul-value
     (λ c. search rules) (λ c. search rules) (λ c κs. search rules)
-    add-value
+    overflow_add-value
     (λ c. search rules) (λ c. search rules)
-    loop-again
+    loop-i-preserved
     returns)
