@@ -27,9 +27,8 @@ text w =
 
 returns : tie.Need-returns
 returns c =
-    let v = c in
-    let w = v.before.before.before in
-    let a = w.args in
+    let w = c.before.before.before.before.before in
+    let a = c.args in
     tail_put 22 (w.spell-start.result - 2) a.at (room w) (address_of a.a) a.out.now (long w) (text w)
     c.put.ensures
 
