@@ -6,20 +6,20 @@ use Rattle.names.proofs.Tables.{taken_is, left_is}
 use Rattle.names.proofs.kind_of.Statement.{statement}
 use Rattle.names.proofs.kind_of.Tie as tie
 
-returns : tie.Need-returns
-returns c =
+returns-then-same_name : tie.Need-returns-then-same_name
+returns-then-same_name c =
     let w = c.before.before in
-    let k = w.before.candidate in
+    let k = w.before.candidate-kind in
     let name = w.before.before.args.name in
-    taken_is name k.result k.ensures (c.before.same_name.ensures.0 c.if1.true ∙ w.name_of.ensures)
+    taken_is name k.result k.ensures (c.before.same_name.ensures.0 c.if-same_name.true ∙ w.name_of.ensures)
 
-returns-2 : tie.Need-returns-2
-returns-2 c =
+returns-else-same_name : tie.Need-returns-else-same_name
+returns-else-same_name c =
     let w = c.before.before in
-    let k = w.before.candidate in
+    let k = w.before.candidate-kind in
     let name = w.before.before.args.name in
     left_is name k.result k.ensures
-    (λ e. true≢false (sym (c.before.same_name.ensures.1 (e ∙ sym w.name_of.ensures)) ∙ c.if1.false))
+    (λ e. true≢false (sym (c.before.same_name.ensures.1 (e ∙ sym w.name_of.ensures)) ∙ c.if-same_name.false))
 
-pub kind-of-spec : {M : Type 1} → statement M
-kind-of-spec = tie.close (tie.spec (λ c κs. search rules) (λ c κs. search rules) (λ c κs. search rules) returns returns-2)
+pub kind_of_spec : {M : Type 1} → statement M
+kind_of_spec = tie.close (tie.spec (λ c κs. search rules) (λ c κs. search rules) (λ c κs. search rules) returns-then-same_name returns-else-same_name)

@@ -14,8 +14,8 @@ returns c =
     let inside : 16 * c.args.row + 16 ≤ length c.args.t1 = omega arith in
     record { bytes = sym (bytes_at 15 (16 * c.args.row) c.args.t1 inside) }
 
-pub name-in-spec : {M : Type 1} → statement M
-name-in-spec = tie.close (tie.spec
+pub name_in_spec : {M : Type 1} → statement M
+name_in_spec = tie.close (tie.spec
     (λ c. search rules) (λ c. search rules) (λ c. search rules) (λ c. search rules) (λ c. search rules)
     (λ c. search rules) (λ c. search rules) (λ c. search rules) (λ c. search rules) (λ c. search rules)
     (λ c. search rules) (λ c. search rules) (λ c. search rules) (λ c. search rules) (λ c. search rules)

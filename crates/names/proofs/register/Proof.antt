@@ -8,13 +8,13 @@ use Rattle.names.proofs.Tables.{right_regs, register_is, no_register}
 use Rattle.names.proofs.register.Statement.{statement}
 use Rattle.names.proofs.register.Tie as tie
 
-returns : tie.Need-returns
+returns-then-n-lt-REGISTERS : tie.Need-returns-then-n-lt-REGISTERS
 unfolding right_regs all_below same register_bytes registers padded letters letter
-returns c = register_is c.register-in.ensures c.before.if1.true tt
+returns-then-n-lt-REGISTERS c = register_is c.register_in.ensures c.before.if-n-lt-REGISTERS.true tt
 
-returns-2 : tie.Need-returns-2
+returns-else-n-lt-REGISTERS : tie.Need-returns-else-n-lt-REGISTERS
 unfolding padded letters letter
-returns-2 c = sym (no_register c.before.args.n c.if1.false)
+returns-else-n-lt-REGISTERS c = sym (no_register c.before.args.n c.if-n-lt-REGISTERS.false)
 
-pub register-spec : {M : Type 1} → statement M
-register-spec = tie.close (tie.spec (λ c κs. search rules) returns returns-2)
+pub register_spec : {M : Type 1} → statement M
+register_spec = tie.close (tie.spec (λ c κs. search rules) returns-then-n-lt-REGISTERS returns-else-n-lt-REGISTERS)

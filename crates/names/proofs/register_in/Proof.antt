@@ -14,8 +14,8 @@ returns c =
     let inside : 4 * c.args.row + 4 ≤ length c.args.t1 = omega arith in
     record { bytes = sym (bytes_at 3 (4 * c.args.row) c.args.t1 inside) }
 
-pub register-in-spec : {M : Type 1} → statement M
-register-in-spec = tie.close (tie.spec
+pub register_in_spec : {M : Type 1} → statement M
+register_in_spec = tie.close (tie.spec
     (λ c. search rules) (λ c. search rules) (λ c. search rules) (λ c. search rules) (λ c. search rules)
     (λ c. search rules) (λ c. search rules) (λ c. search rules)
     returns)

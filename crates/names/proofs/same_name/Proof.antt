@@ -9,8 +9,8 @@ use Rattle.names.proofs.Halves.{halves_same}
 use Rattle.names.proofs.same_name.Statement.{statement}
 use Rattle.names.proofs.same_name.Tie as tie
 
-returns : tie.Need-returns
-returns c =
+returns-then-get8 : tie.Need-returns-then-get8
+returns-then-get8 c =
     let high = c.before.before in
     let branch = high.before.before in
     let low = branch.before.before.before in
@@ -18,21 +18,21 @@ returns c =
     let b = low.before.before.args.t2 in
     let p : length a ≡ 16 = search rules in
     let q : length b ≡ 16 = search rules in
-    let first : take 8 (drop 0 a) ≡ take 8 (drop 0 b) = sym (low.get8.ensures.1 (omega arith)) ∙ ap (low_bytes 8) branch.if1.true ∙ branch.before.get82.ensures.1 (omega arith) in
-    let tested = eqb-true high.get83.result c.get84.result in (
-      λ e. halves_same a b p q first (sym (high.get83.ensures.1 (omega arith)) ∙ ap (low_bytes 8) (tested e) ∙ c.get84.ensures.1 (omega arith)),
-      λ e. eq-eqb high.get83.result c.get84.result (high.get83.ensures.0 ∙ ap (num_at 8 8) e ∙ sym c.get84.ensures.0),
+    let first : take 8 (drop 0 a) ≡ take 8 (drop 0 b) = sym (low.get8.ensures.1 (omega arith)) ∙ ap (low_bytes 8) branch.if-get8.true ∙ branch.before.get8-2.ensures.1 (omega arith) in
+    let tested = eqb-true high.get8-then-get8.result c.get8-then-get8-2.result in (
+      λ e. halves_same a b p q first (sym (high.get8-then-get8.ensures.1 (omega arith)) ∙ ap (low_bytes 8) (tested e) ∙ c.get8-then-get8-2.ensures.1 (omega arith)),
+      λ e. eq-eqb high.get8-then-get8.result c.get8-then-get8-2.result (high.get8-then-get8.ensures.0 ∙ ap (num_at 8 8) e ∙ sym c.get8-then-get8-2.ensures.0),
     )
 
-returns-2 : tie.Need-returns-2
-returns-2 c =
+returns-else-get8 : tie.Need-returns-else-get8
+returns-else-get8 c =
     let n = c.before.before.before.get8 in
-    let m = c.before.get82 in
-    (λ e. absurd (c.if1.false (eqb-true n.result m.result e)), λ e. eq-eqb n.result m.result (n.ensures.0 ∙ ap (num_at 8 0) e ∙ sym m.ensures.0))
+    let m = c.before.get8-2 in
+    (λ e. absurd (c.if-get8.false (eqb-true n.result m.result e)), λ e. eq-eqb n.result m.result (n.ensures.0 ∙ ap (num_at 8 0) e ∙ sym m.ensures.0))
 
-pub same-name-spec : {M : Type 1} → statement M
-same-name-spec = tie.close (tie.spec
+pub same_name_spec : {M : Type 1} → statement M
+same_name_spec = tie.close (tie.spec
     (λ c. search rules) (λ c κs. search rules) (λ c. search rules) (λ c κs. search rules) (λ c. search rules)
     (λ c κs. search rules) (λ c. search rules) (λ c κs. search rules)
-    returns
-    returns-2)
+    returns-then-get8
+    returns-else-get8)

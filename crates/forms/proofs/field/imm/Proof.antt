@@ -3,7 +3,7 @@ use Rattle.forms.proofs.Kept.{kept}
 use Rattle.forms.proofs.field.imm.Statement.{statement}
 use Rattle.forms.proofs.field.imm.Tie as tie
 
-pub imm-spec : {M : Type 1} → statement M
-imm-spec = tie.close (tie.spec
+pub imm_spec : {M : Type 1} → statement M
+imm_spec = tie.close (tie.spec
     (λ c κs. search rules) (λ c κs. search rules)
-    (λ c. rw (c.imm.ensures, kept _ c.before.simm.type-inv, c.before.simm.ensures)))
+    (λ c. rw (c.imm.ensures, kept _ c.before.simm.type_inv, c.before.simm.ensures)))

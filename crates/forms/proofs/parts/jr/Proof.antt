@@ -3,9 +3,9 @@ use borrow.Author.Rules.{rules}
 use Rattle.forms.proofs.parts.jr.Statement.{statement}
 use Rattle.forms.proofs.parts.jr.Tie as tie
 
-pub jr-spec : {M : Type 1} → statement M
-jr-spec = tie.close (tie.spec
+pub jr_spec : {M : Type 1} → statement M
+jr_spec = tie.close (tie.spec
     (λ c κs. search rules)
-    (λ c. rw (c.turn.ensures, eq-eqb _ 31 c.before.if1.true))
+    (λ c. rw (c.turn.ensures, eq-eqb _ 31 c.before.if-rs-eq-RA.true))
     (λ c κs. search rules)
-    (λ c. rw (c.turn2.ensures, ne_eqb _ 31 c.before.if1.false)))
+    (λ c. rw (c.turn-2.ensures, ne_eqb _ 31 c.before.if-rs-eq-RA.false)))

@@ -4,10 +4,10 @@ use borrow.Author.Rules.{rules}
 use Rattle.forms.proofs.parts.link.Statement.{statement}
 use Rattle.forms.proofs.parts.link.Tie as tie
 
-pub link-spec : {M : Type 1} → statement M
+pub link_spec : {M : Type 1} → statement M
 unfolding target_in
-link-spec = tie.close (tie.spec
+link_spec = tie.close (tie.spec
     (λ c κs. search rules)
-    (λ c. rw (c.turn.ensures, eq-eqb _ 31 c.before.if1.true))
+    (λ c. rw (c.turn.ensures, eq-eqb _ 31 c.before.if-rd-eq-RA.true))
     (λ c κs. search rules)
-    (λ c. rw (c.turn2.ensures, ne_eqb _ 31 c.before.if1.false)))
+    (λ c. rw (c.turn-2.ensures, ne_eqb _ 31 c.before.if-rd-eq-RA.false)))

@@ -3,7 +3,7 @@ use Rattle.forms.proofs.Kept.{kept}
 use Rattle.forms.proofs.parts.num.Statement.{statement}
 use Rattle.forms.proofs.parts.num.Tie as tie
 
-pub num-spec : {M : Type 1} → statement M
-num-spec = tie.close (tie.spec
+pub num_spec : {M : Type 1} → statement M
+num_spec = tie.close (tie.spec
     (λ c κs. search rules) (λ c κs. search rules)
-    (λ c. rw (c.imm.ensures, kept _ c.before.number.type-inv, c.before.number.ensures)))
+    (λ c. rw (c.imm.ensures, kept _ c.before.number.type_inv, c.before.number.ensures)))
