@@ -8,4 +8,4 @@ use mir.Val.{hbits, to_z, of_z}
 use mir.Facts.{to_z-of_z}
 
 pub kept : (z : ℤ) → mag z < 2 ^ hbits w64 → to_z w64 (of_z w64 z) ≡ z
-kept z p = to_z-of_z (record { sfits = p })
+kept z p = to_z-of_z {w = w64} (record { sfits = p })

@@ -18,117 +18,117 @@ read_as w va e q = rw e q
 
 -- rd + 1 is a byte
 overflow_add-rd : tie.Need-overflow_add-rd
-overflow_add-rd c = record { fits = omega (arith, c.rd-in-ExtPosSize.ensures, fields_fit c.before.before.before.args.w rd) }
+overflow_add-rd c = record { fits = omega (arith, c.rd-in-ExtPosSize.ensures, fields_fit c.args.w rd) }
 
 pub read_spec : {M : Type 1} → statement M
 unfolding reading outs out flow_of target_in mark_of effect_of
 read_spec = tie.close (tie.spec
     (λ c. search rules) (λ c κs. search rules)
-    (λ c. read_as _ _ c.before.before.shape-1.given.1 c.refused.ensures)
+    (λ c. read_as _ _ c.in-Refused.is c.refused.ensures)
     (λ c. search rules) (λ c κs. search rules)
-    (λ c. read_as _ _ c.before.before.shape-in-NoOperands-1.given.1 c.alone.ensures)
+    (λ c. read_as _ _ c.in-NoOperands.is c.alone.ensures)
     (λ c. search rules) (λ c κs. search rules) (λ c κs. search rules)
-    (λ c. read_as _ _ c.before.before.before.shape-in-InstrIndex-1.given.1
-    (rw (c.to.ensures, c.before.jump_target.ensures)))
+    (λ c. read_as _ _ c.in-InstrIndex.is
+    (rw (c.to.ensures, c.jump_target.ensures)))
     (λ c. search rules) (λ c κs. search rules) (λ c κs. search rules)
-    (λ c. read_as _ _ c.before.before.before.shape-in-Offset-1.given.1
-    (rw (c.to-in-Offset.ensures, c.before.branch_target.ensures)))
+    (λ c. read_as _ _ c.in-Offset.is
+    (rw (c.to-in-Offset.ensures, c.branch_target.ensures)))
     (λ c. search rules) (λ c κs. search rules) (λ c κs. search rules)
-    (λ c. read_as _ _ c.before.before.before.shape-in-RsOffset-1.given.1
-    (rw (c.rs_to.ensures, c.before.branch_target-in-RsOffset.ensures)))
+    (λ c. read_as _ _ c.in-RsOffset.is
+    (rw (c.rs_to.ensures, c.branch_target-in-RsOffset.ensures)))
     (λ c. search rules) (λ c κs. search rules) (λ c κs. search rules)
-    (λ c. read_as _ _ c.before.before.before.shape-in-RsRtOffset-1.given.1
-    (rw (c.rs_rt_to.ensures, c.before.branch_target-in-RsRtOffset.ensures)))
+    (λ c. read_as _ _ c.in-RsRtOffset.is
+    (rw (c.rs_rt_to.ensures, c.branch_target-in-RsRtOffset.ensures)))
     (λ c. search rules) (λ c κs. search rules) (λ c κs. search rules)
-    (λ c. read_as _ _ c.before.before.enum_told-1.given.1 (rw (c.jr.ensures, c.before.rs.ensures)))
+    (λ c. read_as _ _ c.in-Jr.is (rw (c.jr.ensures, c.rs.ensures)))
     (λ c. search rules) (λ c κs. search rules) (λ c κs. search rules) (λ c κs. search rules)
-    (λ c. read_as _ _ c.before.before.before.enum_told-in-Link-1.given.1
-    (rw (c.link.ensures, c.before.rs-in-Link.ensures, c.before.before.rd.ensures)))
+    (λ c. read_as _ _ c.in-Link.is
+    (rw (c.link.ensures, c.rs-in-Link.ensures, c.rd.ensures)))
     (λ c. search rules) (λ c κs. search rules) (λ c κs. search rules) (λ c κs. search rules) (λ c κs. search rules)
-    (λ c. read_as _ _ c.before.before.before.before.before.shape-in-RdRsRt-1.given.1
-    (rw (c.write_three.ensures, c.before.rt.ensures, c.before.before.rs-in-RdRsRt.ensures, c.before.before.before.rd-in-RdRsRt.ensures)))
+    (λ c. read_as _ _ c.in-RdRsRt.is
+    (rw (c.write_three.ensures, c.rt.ensures, c.rs-in-RdRsRt.ensures, c.rd-in-RdRsRt.ensures)))
     (λ c. search rules) (λ c κs. search rules) (λ c κs. search rules) (λ c κs. search rules) (λ c κs. search rules)
-    (λ c. read_as _ _ c.before.before.before.before.before.shape-in-RdRtRs-1.given.1
-    (rw (c.write_three-in-RdRtRs.ensures, c.before.rs-in-RdRtRs.ensures, c.before.before.rt-in-RdRtRs.ensures, c.before.before.before.rd-in-RdRtRs.ensures)))
+    (λ c. read_as _ _ c.in-RdRtRs.is
+    (rw (c.write_three-in-RdRtRs.ensures, c.rs-in-RdRtRs.ensures, c.rt-in-RdRtRs.ensures, c.rd-in-RdRtRs.ensures)))
     (λ c. search rules) (λ c κs. search rules) (λ c κs. search rules) (λ c κs. search rules) (λ c κs. search rules) (λ c κs. search rules)
-    (λ c. read_as _ _ c.before.before.before.before.before.before.shape-in-RdRtSa-1.given.1
-    (rw (c.write_three-in-RdRtSa.ensures, c.before.num.ensures, c.before.before.sa.ensures, c.before.before.before.rt-in-RdRtSa.ensures, c.before.before.before.before.rd-in-RdRtSa.ensures)))
+    (λ c. read_as _ _ c.in-RdRtSa.is
+    (rw (c.write_three-in-RdRtSa.ensures, c.num.ensures, c.sa.ensures, c.rt-in-RdRtSa.ensures, c.rd-in-RdRtSa.ensures)))
     (λ c. search rules) (λ c κs. search rules) (λ c κs. search rules) (λ c κs. search rules)
-    (λ c. read_as _ _ c.before.before.before.before.shape-in-RdRs-1.given.1
-    (rw (c.write_two.ensures, c.before.rs-in-RdRs.ensures, c.before.before.rd-in-RdRs.ensures)))
+    (λ c. read_as _ _ c.in-RdRs.is
+    (rw (c.write_two.ensures, c.rs-in-RdRs.ensures, c.rd-in-RdRs.ensures)))
     (λ c. search rules) (λ c κs. search rules) (λ c κs. search rules) (λ c κs. search rules)
-    (λ c. read_as _ _ c.before.before.before.before.shape-in-RdRt-1.given.1
-    (rw (c.write_two-in-RdRt.ensures, c.before.rt-in-RdRt.ensures, c.before.before.rd-in-RdRt.ensures)))
+    (λ c. read_as _ _ c.in-RdRt.is
+    (rw (c.write_two-in-RdRt.ensures, c.rt-in-RdRt.ensures, c.rd-in-RdRt.ensures)))
     (λ c. search rules) (λ c κs. search rules) (λ c κs. search rules)
-    (λ c. read_as _ _ c.before.before.before.shape-in-OneRd-1.given.1
-    (rw (c.write_one.ensures, c.before.rd-in-OneRd.ensures)))
+    (λ c. read_as _ _ c.in-OneRd.is
+    (rw (c.write_one.ensures, c.rd-in-OneRd.ensures)))
     (λ c. search rules) (λ c κs. search rules) (λ c κs. search rules) (λ c κs. search rules) (λ c κs. search rules)
-    (λ c. read_as _ _ c.before.before.before.before.before.shape-in-RtRsImm-1.given.1
-    (rw (c.write_three-in-RtRsImm.ensures, c.before.imm.ensures, c.before.before.rs-in-RtRsImm.ensures, c.before.before.before.rt-in-RtRsImm.ensures)))
+    (λ c. read_as _ _ c.in-RtRsImm.is
+    (rw (c.write_three-in-RtRsImm.ensures, c.imm.ensures, c.rs-in-RtRsImm.ensures, c.rt-in-RtRsImm.ensures)))
     (λ c. search rules) (λ c κs. search rules) (λ c κs. search rules) (λ c κs. search rules) (λ c κs. search rules)
-    (λ c. read_as _ _ c.before.before.before.before.before.shape-in-RtRsUimm-1.given.1
-    (rw (c.write_three-in-RtRsUimm.ensures, c.before.uimm.ensures, c.before.before.rs-in-RtRsUimm.ensures, c.before.before.before.rt-in-RtRsUimm.ensures)))
+    (λ c. read_as _ _ c.in-RtRsUimm.is
+    (rw (c.write_three-in-RtRsUimm.ensures, c.uimm.ensures, c.rs-in-RtRsUimm.ensures, c.rt-in-RtRsUimm.ensures)))
     (λ c. search rules) (λ c κs. search rules) overflow_add-rd (λ c κs. search rules) (λ c κs. search rules)
-    (λ c. read_as _ _ c.before.before.before.enum_told-in-ExtPosSize-1.given.1
-    (rw (c.bit_field.ensures, kept _ c.before.number.type_inv, c.before.number.ensures, c.before.before.rd-in-ExtPosSize.ensures)))
+    (λ c. read_as _ _ c.in-ExtPosSize.is
+    (rw (c.bit_field.ensures, kept _ c.number.type_inv, c.number.ensures, c.rd-in-ExtPosSize.ensures)))
     (λ c. search rules) (λ c κs. search rules) (λ c κs. search rules)
-    (λ c. read_as _ _ c.before.before.enum_told-in-InsPosSize-1.given.1
-    (rw (c.bit_field-in-InsPosSize.ensures, kept _ c.before.ins_size.type_inv, c.before.ins_size.ensures)))
+    (λ c. read_as _ _ c.in-InsPosSize.is
+    (rw (c.bit_field-in-InsPosSize.ensures, kept _ c.ins_size.type_inv, c.ins_size.ensures)))
     (λ c. search rules) (λ c κs. search rules) (λ c κs. search rules) (λ c κs. search rules) (λ c κs. search rules)
-    (λ c. read_as _ _ c.before.before.before.before.enum_told-in-RtHwr-1.given.1
-    (rw (c.write_two-in-RtHwr.ensures, c.before.num-in-RtHwr.ensures, c.before.before.rd-in-RtHwr.ensures, c.before.before.before.rt-in-RtHwr.ensures)))
+    (λ c. read_as _ _ c.in-RtHwr.is
+    (rw (c.write_two-in-RtHwr.ensures, c.num-in-RtHwr.ensures, c.rd-in-RtHwr.ensures, c.rt-in-RtHwr.ensures)))
     (λ c. search rules) (λ c κs. search rules) (λ c κs. search rules) (λ c κs. search rules)
-    (λ c. read_as _ _ c.before.before.before.before.shape-in-RsRt-1.given.1
-    (rw (c.two.ensures, c.before.rt-in-RsRt.ensures, c.before.before.rs-in-RsRt.ensures)))
+    (λ c. read_as _ _ c.in-RsRt.is
+    (rw (c.two.ensures, c.rt-in-RsRt.ensures, c.rs-in-RsRt.ensures)))
     (λ c. search rules) (λ c κs. search rules) (λ c κs. search rules)
-    (λ c. read_as _ _ c.before.before.before.shape-in-OneRs-1.given.1 (rw (c.one.ensures, c.before.rs-in-OneRs.ensures)))
+    (λ c. read_as _ _ c.in-OneRs.is (rw (c.one.ensures, c.rs-in-OneRs.ensures)))
     (λ c. search rules) (λ c κs. search rules) (λ c κs. search rules) (λ c κs. search rules)
-    (λ c. read_as _ _ c.before.before.before.before.shape-in-RtCop0-1.given.1
-    (rw (c.two-in-RtCop0.ensures, c.before.cop0.ensures, c.before.before.rt-in-RtCop0.ensures)))
+    (λ c. read_as _ _ c.in-RtCop0.is
+    (rw (c.two-in-RtCop0.ensures, c.cop0.ensures, c.rt-in-RtCop0.ensures)))
     (λ c. search rules) (λ c κs. search rules) (λ c κs. search rules) (λ c κs. search rules)
-    (λ c. read_as _ _ c.before.before.before.before.shape-in-RtFs-1.given.1
-    (rw (c.two-in-RtFs.ensures, c.before.fs.ensures, c.before.before.rt-in-RtFs.ensures)))
+    (λ c. read_as _ _ c.in-RtFs.is
+    (rw (c.two-in-RtFs.ensures, c.fs.ensures, c.rt-in-RtFs.ensures)))
     (λ c. search rules) (λ c κs. search rules) (λ c κs. search rules) (λ c κs. search rules) (λ c κs. search rules)
-    (λ c. read_as _ _ c.before.before.before.before.before.shape-in-FdFsFt-1.given.1
-    (rw (c.three.ensures, c.before.ft.ensures, c.before.before.fs-in-FdFsFt.ensures, c.before.before.before.fd.ensures)))
+    (λ c. read_as _ _ c.in-FdFsFt.is
+    (rw (c.three.ensures, c.ft.ensures, c.fs-in-FdFsFt.ensures, c.fd.ensures)))
     (λ c. search rules) (λ c κs. search rules) (λ c κs. search rules) (λ c κs. search rules)
-    (λ c. read_as _ _ c.before.before.before.before.shape-in-FdFs-1.given.1
-    (rw (c.two-in-FdFs.ensures, c.before.fs-in-FdFs.ensures, c.before.before.fd-in-FdFs.ensures)))
+    (λ c. read_as _ _ c.in-FdFs.is
+    (rw (c.two-in-FdFs.ensures, c.fs-in-FdFs.ensures, c.fd-in-FdFs.ensures)))
     (λ c. search rules) (λ c κs. search rules) (λ c κs. search rules) (λ c κs. search rules)
-    (λ c. read_as _ _ c.before.before.before.before.shape-in-FsFt-1.given.1
-    (rw (c.two-in-FsFt.ensures, c.before.ft-in-FsFt.ensures, c.before.before.fs-in-FsFt.ensures)))
+    (λ c. read_as _ _ c.in-FsFt.is
+    (rw (c.two-in-FsFt.ensures, c.ft-in-FsFt.ensures, c.fs-in-FsFt.ensures)))
     (λ c. search rules) (λ c κs. search rules) (λ c κs. search rules) (λ c κs. search rules) (λ c κs. search rules)
-    (λ c. read_as _ _ c.before.before.before.before.before.shape-in-HintBase-1.given.1
-    (rw (c.two-in-HintBase.ensures, c.before.base.ensures, c.before.before.num-in-HintBase.ensures, c.before.before.before.rt-in-HintBase.ensures)))
+    (λ c. read_as _ _ c.in-HintBase.is
+    (rw (c.two-in-HintBase.ensures, c.base.ensures, c.num-in-HintBase.ensures, c.rt-in-HintBase.ensures)))
     (λ c. search rules) (λ c κs. search rules) (λ c κs. search rules) (λ c κs. search rules)
-    (λ c. read_as _ _ c.before.before.before.before.shape-in-RtCop0Write-1.given.1
-    (rw (c.write_two-in-RtCop0Write.ensures, c.before.cop0-in-RtCop0Write.ensures, c.before.before.rt-in-RtCop0Write.ensures)))
+    (λ c. read_as _ _ c.in-RtCop0Write.is
+    (rw (c.write_two-in-RtCop0Write.ensures, c.cop0-in-RtCop0Write.ensures, c.rt-in-RtCop0Write.ensures)))
     (λ c. search rules) (λ c κs. search rules) (λ c κs. search rules) (λ c κs. search rules)
-    (λ c. read_as _ _ c.before.before.before.before.shape-in-RtFsWrite-1.given.1
-    (rw (c.write_two-in-RtFsWrite.ensures, c.before.fs-in-RtFsWrite.ensures, c.before.before.rt-in-RtFsWrite.ensures)))
+    (λ c. read_as _ _ c.in-RtFsWrite.is
+    (rw (c.write_two-in-RtFsWrite.ensures, c.fs-in-RtFsWrite.ensures, c.rt-in-RtFsWrite.ensures)))
     (λ c. search rules) (λ c κs. search rules) (λ c κs. search rules) (λ c κs. search rules)
-    (λ c. read_as _ _ c.before.before.before.before.shape-in-RtBaseWrite-1.given.1
-    (rw (c.write_two-in-RtBaseWrite.ensures, c.before.base-in-RtBaseWrite.ensures, c.before.before.rt-in-RtBaseWrite.ensures)))
+    (λ c. read_as _ _ c.in-RtBaseWrite.is
+    (rw (c.write_two-in-RtBaseWrite.ensures, c.base-in-RtBaseWrite.ensures, c.rt-in-RtBaseWrite.ensures)))
     (λ c. search rules) (λ c κs. search rules) (λ c κs. search rules) (λ c κs. search rules) (λ c κs. search rules)
-    (λ c. read_as _ _ c.before.before.before.before.before.shape-in-RtRsImmAdd-1.given.1
-    (rw (c.add.ensures, kept _ c.before.simm.type_inv, c.before.simm.ensures, c.before.before.rs-in-RtRsImmAdd.ensures, c.before.before.before.rt-in-RtRsImmAdd.ensures)))
+    (λ c. read_as _ _ c.in-RtRsImmAdd.is
+    (rw (c.add.ensures, kept _ c.simm.type_inv, c.simm.ensures, c.rs-in-RtRsImmAdd.ensures, c.rt-in-RtRsImmAdd.ensures)))
     (λ c. search rules) (λ c κs. search rules) (λ c κs. search rules) (λ c κs. search rules) (λ c κs. search rules)
-    (λ c. read_as _ _ c.before.before.before.before.before.shape-in-RtRsUimmAdd-1.given.1
-    (rw (c.add-in-RtRsUimmAdd.ensures, kept _ c.before.uimm-in-RtRsUimmAdd.type_inv, c.before.uimm-in-RtRsUimmAdd.ensures, c.before.before.rs-in-RtRsUimmAdd.ensures, c.before.before.before.rt-in-RtRsUimmAdd.ensures)))
+    (λ c. read_as _ _ c.in-RtRsUimmAdd.is
+    (rw (c.add-in-RtRsUimmAdd.ensures, kept _ c.uimm-in-RtRsUimmAdd.type_inv, c.uimm-in-RtRsUimmAdd.ensures, c.rs-in-RtRsUimmAdd.ensures, c.rt-in-RtRsUimmAdd.ensures)))
     (λ c. search rules) (λ c κs. search rules) (λ c κs. search rules) (λ c κs. search rules)
-    (λ c. read_as _ _ c.before.before.before.enum_told-in-RtImm-1.given.1
-    (rw (c.set.ensures, kept _ c.before.simm-in-RtImm.type_inv, c.before.simm-in-RtImm.ensures, c.before.before.rt-in-RtImm.ensures)))
+    (λ c. read_as _ _ c.in-RtImm.is
+    (rw (c.set.ensures, kept _ c.simm-in-RtImm.type_inv, c.simm-in-RtImm.ensures, c.rt-in-RtImm.ensures)))
     (λ c. search rules) (λ c κs. search rules) (λ c κs. search rules) (λ c κs. search rules)
-    (λ c. read_as _ _ c.before.before.before.enum_told-in-RtUimm-1.given.1
-    (rw (c.set-in-RtUimm.ensures, kept _ c.before.uimm-in-RtUimm.type_inv, c.before.uimm-in-RtUimm.ensures, c.before.before.rt-in-RtUimm.ensures)))
+    (λ c. read_as _ _ c.in-RtUimm.is
+    (rw (c.set-in-RtUimm.ensures, kept _ c.uimm-in-RtUimm.type_inv, c.uimm-in-RtUimm.ensures, c.rt-in-RtUimm.ensures)))
     (λ c. search rules) (λ c κs. search rules) (λ c κs. search rules) (λ c κs. search rules) (λ c κs. search rules)
-    (λ c. read_as _ _ c.before.before.before.before.enum_told-in-RtUimmUpper-1.given.1
-    (rw (c.set_upper.ensures, c.before.lui_value.ensures, kept _ c.before.before.uimm-in-RtUimmUpper.type_inv, c.before.before.uimm-in-RtUimmUpper.ensures, c.before.before.before.rt-in-RtUimmUpper.ensures)))
+    (λ c. read_as _ _ c.in-RtUimmUpper.is
+    (rw (c.set_upper.ensures, c.lui_value.ensures, kept _ c.uimm-in-RtUimmUpper.type_inv, c.uimm-in-RtUimmUpper.ensures, c.rt-in-RtUimmUpper.ensures)))
     (λ c. search rules) (λ c κs. search rules) (λ c κs. search rules) (λ c κs. search rules)
-    (λ c. read_as _ _ c.before.before.before.before.shape-in-RtBaseLoad-1.given.1
-    (rw (c.access.ensures, c.before.rt-in-RtBaseLoad-2.ensures, c.before.before.rt-in-RtBaseLoad.ensures)))
+    (λ c. read_as _ _ c.in-RtBaseLoad.is
+    (rw (c.access.ensures, c.rt-in-RtBaseLoad-2.ensures, c.rt-in-RtBaseLoad.ensures)))
     (λ c. search rules) (λ c κs. search rules) (λ c κs. search rules)
-    (λ c. read_as _ _ c.before.before.before.shape-in-RtBaseStore-1.given.1
-    (rw (c.access-in-RtBaseStore.ensures, c.before.rt-in-RtBaseStore.ensures)))
+    (λ c. read_as _ _ c.in-RtBaseStore.is
+    (rw (c.access-in-RtBaseStore.ensures, c.rt-in-RtBaseStore.ensures)))
     (λ c. search rules) (λ c κs. search rules)
-    (λ c. read_as _ _ c.before.before.shape-in-FtBase-1.given.1 c.ft_base.ensures))
+    (λ c. read_as _ _ c.in-FtBase.is c.ft_base.ensures))

@@ -15,22 +15,22 @@ use Rattle.names.proofs.candidate.Tie as tie
 
 overflow_add-place : tie.Need-overflow_add-place
 overflow_add-place c =
-    let ninth : Fits w8 (get_or c.before.before.before.args.t1 8 0) = search rules in
+    let ninth : Fits w8 (get_or c.args.name 8 0) = search rules in
     omega (arith, ninth.fits)
 
 overflow_add-place-2 : tie.Need-overflow_add-place-2
 overflow_add-place-2 c =
-    let ninth : Fits w8 (get_or c.before.before.before.args.t1 8 0) = search rules in
+    let ninth : Fits w8 (get_or c.args.name 8 0) = search rules in
     let shift : Fits w8 c.shift_in-shift.result = search rules in
     omega (arith, ninth.fits, shift.fits)
 
 returns : tie.Need-returns
 unfolding complete only_kinds all_below name_bytes name_of mnemonics padded letters letter
 returns c =
-    let w = c.before.before in
+    let w = c in
     let n = w.get8-letters in
-    let s = c.before.shift_in-shift in
-    let ninth = get_or w.before.before.args.t1 8 0 in
+    let s = c.shift_in-shift in
+    let ninth = get_or w.args.name 8 0 in
     candidate_is n.result ninth s.result n.ensures.0 refl s.ensures refl c.kind_in.ensures tt tt
 
 pub candidate_spec : {M : Type 1} → statement M

@@ -10,9 +10,9 @@ use Rattle.names.proofs.name_in.Tie as tie
 
 returns : tie.Need-returns
 returns c =
-    let size : length c.args.t1 ≡ 64 = search rules in
-    let inside : 16 * c.args.row + 16 ≤ length c.args.t1 = omega arith in
-    record { bytes = sym (bytes_at 15 (16 * c.args.row) c.args.t1 inside) }
+    let size : length c.args.names ≡ 64 = search rules in
+    let inside : 16 * c.args.row + 16 ≤ length c.args.names = omega arith in
+    record { bytes = sym (bytes_at 15 (16 * c.args.row) c.args.names inside) }
 
 pub name_in_spec : {M : Type 1} → statement M
 name_in_spec = tie.close (tie.spec

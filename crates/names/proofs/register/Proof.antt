@@ -10,11 +10,11 @@ use Rattle.names.proofs.register.Tie as tie
 
 returns-then-n-lt-REGISTERS : tie.Need-returns-then-n-lt-REGISTERS
 unfolding right_regs all_below same register_bytes registers padded letters letter
-returns-then-n-lt-REGISTERS c = register_is c.register_in.ensures c.before.if-n-lt-REGISTERS.true tt
+returns-then-n-lt-REGISTERS c = register_is c.register_in.ensures c.if-n-lt-REGISTERS.true tt
 
 returns-else-n-lt-REGISTERS : tie.Need-returns-else-n-lt-REGISTERS
 unfolding padded letters letter
-returns-else-n-lt-REGISTERS c = sym (no_register c.before.args.n c.if-n-lt-REGISTERS.false)
+returns-else-n-lt-REGISTERS c = sym (no_register c.args.n c.if-n-lt-REGISTERS.false)
 
 pub register_spec : {M : Type 1} → statement M
 register_spec = tie.close (tie.spec (λ c κs. search rules) returns-then-n-lt-REGISTERS returns-else-n-lt-REGISTERS)

@@ -10,9 +10,9 @@ use Rattle.names.proofs.register_in.Tie as tie
 
 returns : tie.Need-returns
 returns c =
-    let size : length c.args.t1 ≡ 128 = search rules in
-    let inside : 4 * c.args.row + 4 ≤ length c.args.t1 = omega arith in
-    record { bytes = sym (bytes_at 3 (4 * c.args.row) c.args.t1 inside) }
+    let size : length c.args.regs ≡ 128 = search rules in
+    let inside : 4 * c.args.row + 4 ≤ length c.args.regs = omega arith in
+    record { bytes = sym (bytes_at 3 (4 * c.args.row) c.args.regs inside) }
 
 pub register_in_spec : {M : Type 1} → statement M
 register_in_spec = tie.close (tie.spec

@@ -13,12 +13,12 @@ returns-then-get8 : tie.Need-returns-then-get8
 returns-then-get8 c =
     let high = c.before.before in
     let branch = high.before.before in
-    let low = branch.before.before.before in
-    let a = low.before.before.args.t1 in
-    let b = low.before.before.args.t2 in
+    let low = branch in
+    let a = low.args.a in
+    let b = low.args.b in
     let p : length a ≡ 16 = search rules in
     let q : length b ≡ 16 = search rules in
-    let first : take 8 (drop 0 a) ≡ take 8 (drop 0 b) = sym (low.get8.ensures.1 (omega arith)) ∙ ap (low_bytes 8) branch.if-get8.true ∙ branch.before.get8-2.ensures.1 (omega arith) in
+    let first : take 8 (drop 0 a) ≡ take 8 (drop 0 b) = sym (low.get8.ensures.1 (omega arith)) ∙ ap (low_bytes 8) branch.if-get8.true ∙ branch.get8-2.ensures.1 (omega arith) in
     let tested = eqb-true high.get8-then-get8.result c.get8-then-get8-2.result in (
       λ e. halves_same a b p q first (sym (high.get8-then-get8.ensures.1 (omega arith)) ∙ ap (low_bytes 8) (tested e) ∙ c.get8-then-get8-2.ensures.1 (omega arith)),
       λ e. eq-eqb high.get8-then-get8.result c.get8-then-get8-2.result (high.get8-then-get8.ensures.0 ∙ ap (num_at 8 8) e ∙ sym c.get8-then-get8-2.ensures.0),
@@ -26,8 +26,8 @@ returns-then-get8 c =
 
 returns-else-get8 : tie.Need-returns-else-get8
 returns-else-get8 c =
-    let n = c.before.before.before.get8 in
-    let m = c.before.get8-2 in
+    let n = c.get8 in
+    let m = c.get8-2 in
     (λ e. absurd (c.if-get8.false (eqb-true n.result m.result e)), λ e. eq-eqb n.result m.result (n.ensures.0 ∙ ap (num_at 8 0) e ∙ sym m.ensures.0))
 
 pub same_name_spec : {M : Type 1} → statement M
