@@ -47,4 +47,4 @@ name_in_upper_half_spec = tie.close (tie.spec
     (λ c. arm c.name_in-in-50.ensures c.requires.1 c.in-50.is tt)
     (λ c. arm c.name_in-in-51.ensures c.requires.1 c.in-51.is tt)
     (λ c. arm c.name_in-in-52.ensures c.requires.1 c.in-52.is tt)
-    (λ c. let a = c.args in let p : 53 ≤ a.array = past a.array 27 26 c.requires.0 c.in_default.rest in sym (no_name (4 * a.array + a.row) (omega arith))))
+    (λ c. let a = c.args in let p : 53 ≤ a.array = past a.array 27 26 c.requires.0 c.in_default.in_default-own.rest in sym (no_name (4 * a.array + a.row) (omega arith))))

@@ -19,7 +19,7 @@ name_of_spec = tie.close (tie.spec
     (λ c κs. search rules) (λ c κs. search rules) (λ c κs. search rules) (λ c κs. search rules) (λ c κs. search rules)
     (λ c κs. search rules) (λ c κs. search rules) (λ c κs. search rules) (λ c κs. search rules) (λ c κs. search rules)
     (λ c κs. search rules) (λ c κs. search rules) (λ c κs. search rules)
-    (λ c κs. (past _ 0 27 (omega arith) c.in_default.rest, omega arith))
+    (λ c κs. (past _ 0 27 (omega arith) c.in_default.in_default-own.rest, omega arith))
     (λ c. arm_of c.args.kind c.name_in.ensures c.in-0.is tt)
     (λ c. arm_of c.args.kind c.name_in-in-1.ensures c.in-1.is tt)
     (λ c. arm_of c.args.kind c.name_in-in-2.ensures c.in-2.is tt)
