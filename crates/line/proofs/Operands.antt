@@ -10,7 +10,7 @@ use lib.Dec.{T, ltb, leb}
 use lib.IntN.{ℤ}
 use lib.Signed.{nat_abs-le}
 use lib.ListN.{length, take, drop, get_or}
-use lib.Seq.{slice_cons, slice_empty}
+use lib.Seq.{slice-cons, slice_empty}
 use borrow.Author.Tests.{leb-true, ne_eqb}
 use mir.Facts.{to_z-of_z}
 use mir.Val.{SFits, to_z, of_z}
@@ -47,7 +47,7 @@ rest k n ops = drop k (take n ops)
 
 rest_cons : (k n : ℕ) (ops : List Operand) → k < n → n ≤ length ops →
     rest k n ops ≡ get_or ops k unused ∷ rest (k + 1) n ops
-rest_cons k n ops h m = slice_cons k n ops unused h m ∙ rw add-one
+rest_cons k n ops h m = slice-cons k n ops unused h m ∙ rw add-one
 
 -- ── registers ──
 

@@ -15,12 +15,12 @@ low-is : (w : ℕ) {a k : ℕ} → Group 17 w × (fields_of w rs ≡ 8) → a �
     Known (fields_of w) (op ≐ 17 ∷ rs ≐ 8 ∷ rt lowIs k ∷ [])
 low-is w g i e = (g.0, (g.1, (rw (← i) e, tt)))
 
-pub bc1-spec : {M : Type 1} → statement M
+pub bc1_spec : {M : Type 1} → statement M
 unfolding row_by meaning reading outs flow_of target_in mark_of effect_of
-bc1-spec = tie.close (tie.spec
+bc1_spec = tie.close (tie.spec
     (λ c κs. search rules)
-    (λ c wide. taken (op ≐ 17 ∷ rs ≐ 8 ∷ rt lowIs 0 ∷ []) (low-is _ c.before.before.requires c.before.rt.ensures c.match.keys1) (λ va. refl))
-    (λ c wide. taken (op ≐ 17 ∷ rs ≐ 8 ∷ rt lowIs 1 ∷ []) (low-is _ c.before.before.requires c.before.rt.ensures c.match.keys2) (λ va. refl))
-    (λ c wide. taken (op ≐ 17 ∷ rs ≐ 8 ∷ rt lowIs 2 ∷ []) (low-is _ c.before.before.requires c.before.rt.ensures c.match.keys3) (λ va. refl))
-    (λ c wide. let s = c.before.before in taken (op ≐ 17 ∷ rs ≐ 8 ∷ rt low_is_none_of (2 ∷ 1 ∷ 0 ∷ []) ∷ [])
-    (s.requires.0, (s.requires.1, (rw (← c.before.rt.ensures) c.match.rest, tt))) (λ va. refl)))
+    (λ c wide. taken (op ≐ 17 ∷ rs ≐ 8 ∷ rt lowIs 0 ∷ []) (low-is _ c.requires c.rt-likely_and_true.ensures c.in-0.is) (λ va. refl))
+    (λ c wide. taken (op ≐ 17 ∷ rs ≐ 8 ∷ rt lowIs 1 ∷ []) (low-is _ c.requires c.rt-likely_and_true.ensures c.in-1.is) (λ va. refl))
+    (λ c wide. taken (op ≐ 17 ∷ rs ≐ 8 ∷ rt lowIs 2 ∷ []) (low-is _ c.requires c.rt-likely_and_true.ensures c.in-2.is) (λ va. refl))
+    (λ c wide. let s = c in taken (op ≐ 17 ∷ rs ≐ 8 ∷ rt low_is_none_of (2 ∷ 1 ∷ 0 ∷ []) ∷ [])
+    (s.requires.0, (s.requires.1, (rw (← c.rt-likely_and_true.ensures) c.in_default.in_default-own.rest, tt))) (λ va. refl)))

@@ -14,16 +14,16 @@ outer = 16 ∷ 4 ∷ 0 ∷ []
 abbrev inner : List ℕ
 inner = 32 ∷ 24 ∷ []
 
-pub cop0-spec : {M : Type 1} → statement M
+pub cop0_spec : {M : Type 1} → statement M
 unfolding row_by number_by meaning reading outs flow_of target_in mark_of effect_of
-cop0-spec = tie.close (tie.spec
+cop0_spec = tie.close (tie.spec
     (λ c κs. search rules) (λ c κs. search rules)
-    (λ c wide. arm c.before.before.requires rs (sym c.before.rs.ensures) c.match.keys1 (λ va. refl))
-    (λ c wide. arm c.before.before.requires rs (sym c.before.rs.ensures) c.match.keys2 (λ va. refl))
-    (λ c wide. let s = c.before.before in
-    arm_if s.before.before.requires rs (sym s.before.rs.ensures) s.match.keys3 funct c.before.funct.ensures c.match2.keys1 (λ va. refl))
-    (λ c wide. let s = c.before.before in
-    arm_if s.before.before.requires rs (sym s.before.rs.ensures) s.match.keys3 funct c.before.funct.ensures c.match2.keys2 (λ va. refl))
-    (λ c wide. let s = c.before.before in
-    arm_if_rest s.before.before.requires rs (sym s.before.rs.ensures) s.match.keys3 funct inner c.before.funct.ensures c.match2.rest refl tt)
-    (λ c wide. arm_rest c.before.before.requires rs (sym c.before.rs.ensures) outer c.match.rest refl tt))
+    (λ c wide. arm c.requires rs (sym c.rs-rs.ensures) c.in-0.is (λ va. refl))
+    (λ c wide. arm c.requires rs (sym c.rs-rs.ensures) c.in-4.is (λ va. refl))
+    (λ c wide. let s = c in
+    arm_if s.requires rs (sym s.rs-rs.ensures) s.in-16.is funct c.funct-funct.ensures c.in-24.is (λ va. refl))
+    (λ c wide. let s = c in
+    arm_if s.requires rs (sym s.rs-rs.ensures) s.in-16.is funct c.funct-funct.ensures c.in-32.is (λ va. refl))
+    (λ c wide. let s = c in
+    arm_if_rest s.requires rs (sym s.rs-rs.ensures) s.in-16.is funct inner c.funct-funct.ensures c.in_default-funct.in_default-funct-own.rest refl tt)
+    (λ c wide. arm_rest c.requires rs (sym c.rs-rs.ensures) outer c.in_default.in_default-own.rest refl tt))

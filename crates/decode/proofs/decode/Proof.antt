@@ -6,23 +6,23 @@ use Rattle.decode.proofs.Bytes.{too_short, first_four}
 use Rattle.decode.proofs.decode.Statement.{statement}
 use Rattle.decode.proofs.decode.Tie as tie
 
+returns-then-bytes-lt4 : tie.Need-returns-then-bytes-lt4
+returns-then-bytes-lt4 c = c.refused.ensures ∙ too_short c.args.bytes.now _ _ _ c.if-bytes-lt4.true
+
 returns : tie.Need-returns
-returns c = c.refused.ensures ∙ too_short c.before.before.before.args.bytes.now _ _ _ c.before.if1.true
-
-returns-2 : tie.Need-returns-2
-returns-2 c =
+returns c =
     let b = c.before.before in
-    let i = b.before.before.before.before.before in
-    let a = i.before.before.args in
+    let i = b in
+    let a = i.args in
     c.read.ensures
-    ∙ (c.before.shape_of.ensures.reads _
-    ∙ (ap (λ (w : ℕ). decoded_of w a.va a.bits64) b.from_bytes.ensures
-    ∙ first_four a.bytes.now a.va a.big_endian a.bits64 i.if1.false))
+    ∙ (c.shape_of.ensures.reads _
+    ∙ (ap (λ (w : ℕ). decoded_of w a.va a.bits64) b.from_bytes-w.ensures
+    ∙ first_four a.bytes.now a.va a.big_endian a.bits64 i.if-bytes-lt4.false))
 
-pub decode-spec : {M : Type 1} → statement M
-decode-spec = tie.close (tie.spec
+pub decode_spec : {M : Type 1} → statement M
+decode_spec = tie.close (tie.spec
     (λ c κs. search rules)
-    returns
+    returns-then-bytes-lt4
     (λ c. search rules) (λ c. search rules) (λ c. search rules) (λ c. search rules) (λ c κs. search rules)
     (λ c κs. search rules) (λ c κs. search rules)
-    returns-2)
+    returns)

@@ -13,24 +13,24 @@ use Rattle.decode.proofs.decode_cop1.Tie as tie
 abbrev keys : List ℕ
 keys = 21 ∷ 20 ∷ 17 ∷ 16 ∷ 8 ∷ 6 ∷ 5 ∷ 4 ∷ 2 ∷ 1 ∷ 0 ∷ []
 
-pub decode-cop1-spec : {M : Type 1} → statement M
+pub decode_cop1_spec : {M : Type 1} → statement M
 unfolding row_by number_by meaning
-decode-cop1-spec = tie.close (tie.spec
+decode_cop1_spec = tie.close (tie.spec
     (λ c κs. search rules)
-    (λ c κs. (c.before.before.requires, sym c.before.rs.ensures ∙ c.match.keys7))
-    (λ c κs. ((c.before.before.requires, single (sym c.before.rs.ensures ∙ c.match.keys8) refl), omega arith))
-    (λ c κs. ((c.before.before.requires, double (sym c.before.rs.ensures ∙ c.match.keys9) refl), omega arith))
-    (λ c κs. ((c.before.before.requires, word (sym c.before.rs.ensures ∙ c.match.keys10) refl), omega arith))
-    (λ c κs. ((c.before.before.requires, long (sym c.before.rs.ensures ∙ c.match.keys11) refl), omega arith))
-    (λ c wide. arm c.before.before.requires rs (sym c.before.rs.ensures) c.match.keys1 (λ va. refl))
-    (λ c wide. arm c.before.before.requires rs (sym c.before.rs.ensures) c.match.keys2 (λ va. refl))
-    (λ c wide. arm c.before.before.requires rs (sym c.before.rs.ensures) c.match.keys3 (λ va. refl))
-    (λ c wide. arm c.before.before.requires rs (sym c.before.rs.ensures) c.match.keys4 (λ va. refl))
-    (λ c wide. arm c.before.before.requires rs (sym c.before.rs.ensures) c.match.keys5 (λ va. refl))
-    (λ c wide. arm c.before.before.requires rs (sym c.before.rs.ensures) c.match.keys6 (λ va. refl))
+    (λ c κs. (c.requires, sym c.rs-fmt.ensures ∙ c.in-8.is))
+    (λ c κs. ((c.requires, single (sym c.rs-fmt.ensures ∙ c.in-16.is) refl), omega arith))
+    (λ c κs. ((c.requires, double (sym c.rs-fmt.ensures ∙ c.in-17.is) refl), omega arith))
+    (λ c κs. ((c.requires, word (sym c.rs-fmt.ensures ∙ c.in-20.is) refl), omega arith))
+    (λ c κs. ((c.requires, long (sym c.rs-fmt.ensures ∙ c.in-21.is) refl), omega arith))
+    (λ c wide. arm c.requires rs (sym c.rs-fmt.ensures) c.in-0.is (λ va. refl))
+    (λ c wide. arm c.requires rs (sym c.rs-fmt.ensures) c.in-1.is (λ va. refl))
+    (λ c wide. arm c.requires rs (sym c.rs-fmt.ensures) c.in-2.is (λ va. refl))
+    (λ c wide. arm c.requires rs (sym c.rs-fmt.ensures) c.in-4.is (λ va. refl))
+    (λ c wide. arm c.requires rs (sym c.rs-fmt.ensures) c.in-5.is (λ va. refl))
+    (λ c wide. arm c.requires rs (sym c.rs-fmt.ensures) c.in-6.is (λ va. refl))
     (λ c. c.bc1.ensures)
     (λ c. c.float.ensures)
-    (λ c. c.float2.ensures)
-    (λ c. c.float3.ensures)
-    (λ c. c.float4.ensures)
-    (λ c wide. arm_rest c.before.before.requires rs (sym c.before.rs.ensures) keys c.match.rest refl tt))
+    (λ c. c.float-in-17.ensures)
+    (λ c. c.float-in-20.ensures)
+    (λ c. c.float-in-21.ensures)
+    (λ c wide. arm_rest c.requires rs (sym c.rs-fmt.ensures) keys c.in_default.in_default-own.rest refl tt))

@@ -3,5 +3,5 @@ use borrow.Author.Rules.{rules}
 use Rattle.decode.proofs.decode_word.Statement.{statement}
 use Rattle.decode.proofs.decode_word.Tie as tie
 
-pub decode-word-spec : {M : Type 1} → statement M
-decode-word-spec = tie.close (tie.spec (λ c κs. search rules) (λ c κs. search rules) (λ c. c.read.ensures ∙ c.before.shape_of.ensures.reads _))
+pub decode_word_spec : {M : Type 1} → statement M
+decode_word_spec = tie.close (tie.spec (λ c κs. search rules) (λ c κs. search rules) (λ c. c.read.ensures ∙ c.shape_of.ensures.reads _))

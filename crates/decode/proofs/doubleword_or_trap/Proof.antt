@@ -25,24 +25,24 @@ daddu wide o k (inl e) = arm o funct k refl (rw e (λ va. refl))
 daddu true o k (inr n) = arm_else o funct k refl rt refl n (λ va. refl)
 daddu false o k (inr n) = arm o funct k refl (λ va. refl)
 
-pub doubleword-or-trap-spec : {M : Type 1} → statement M
+pub doubleword_or_trap_spec : {M : Type 1} → statement M
 unfolding row_by number_by meaning
-doubleword-or-trap-spec = tie.close (tie.spec
+doubleword_or_trap_spec = tie.close (tie.spec
     (λ c κs. search rules)
-    (λ c. arm c.before.requires.0 funct c.before.requires.1.0 c.match.keys1 (λ va. refl))
-    (λ c. let s = c.before.before.before in
-    arm_if s.before.requires.0 funct s.before.requires.1.0 s.match.keys2 rt c.before.before.rt.ensures c.before.if1.true
-    (rw c.if2.true (λ va. refl)))
-    (λ c. let s = c.before.before in daddu _ s.before.requires.0 (s.before.requires.1.0 ∙ s.match.keys2)
-    (⊎_elim (λ p. inl p.1.left) (λ p. inr (λ q. p.left (c.before.rt.ensures ∙ q))) c.if1.branch))
-    (λ c. arm c.before.requires.0 funct c.before.requires.1.0 c.match.keys3 (λ va. refl))
-    (λ c. arm c.before.requires.0 funct c.before.requires.1.0 c.match.keys4 (λ va. refl))
-    (λ c. arm c.before.requires.0 funct c.before.requires.1.0 c.match.keys5 (λ va. refl))
-    (λ c. arm c.before.requires.0 funct c.before.requires.1.0 c.match.keys6 (λ va. refl))
-    (λ c. arm c.before.requires.0 funct c.before.requires.1.0 c.match.keys7 (λ va. refl))
-    (λ c. arm c.before.requires.0 funct c.before.requires.1.0 c.match.keys8 (λ va. refl))
-    (λ c. arm c.before.requires.0 funct c.before.requires.1.0 c.match.keys9 (λ va. refl))
-    (λ c. arm c.before.requires.0 funct c.before.requires.1.0 c.match.keys10 (λ va. refl))
+    (λ c. arm c.requires.0 funct c.requires.1.0 c.in-44.is (λ va. refl))
+    (λ c. let s = c in
+    arm_if s.requires.0 funct s.requires.1.0 s.in-45.is rt c.rt.ensures c.else-rt-eq0.true
+    (rw c.if-bits64.true (λ va. refl)))
+    (λ c. let s = c in daddu _ s.requires.0 (s.requires.1.0 ∙ s.in-45.is)
+    (⊎_elim (λ p. inl p.1.left) (λ p. inr (λ q. p.left (c.rt.ensures ∙ q))) c.else-rt-eq0.branch))
+    (λ c. arm c.requires.0 funct c.requires.1.0 c.in-46.is (λ va. refl))
+    (λ c. arm c.requires.0 funct c.requires.1.0 c.in-47.is (λ va. refl))
+    (λ c. arm c.requires.0 funct c.requires.1.0 c.in-48.is (λ va. refl))
+    (λ c. arm c.requires.0 funct c.requires.1.0 c.in-49.is (λ va. refl))
+    (λ c. arm c.requires.0 funct c.requires.1.0 c.in-50.is (λ va. refl))
+    (λ c. arm c.requires.0 funct c.requires.1.0 c.in-51.is (λ va. refl))
+    (λ c. arm c.requires.0 funct c.requires.1.0 c.in-52.is (λ va. refl))
+    (λ c. arm c.requires.0 funct c.requires.1.0 c.in-54.is (λ va. refl))
     (λ c. left_over (op ≐ 0 ∷ funct is_none_of keys ∷ funct is_none_of arithmetics ∷ funct is_none_of moves ∷ funct is_none_of shifts ∷ [])
-    (c.before.requires.0, (subst (λ (k : ℕ). NoneOf k keys) (sym c.before.requires.1.0) c.match.rest, c.before.requires.1.1))
+    (c.requires.0, (subst (λ (k : ℕ). NoneOf k keys) (sym c.requires.1.0) c.in_default.in_default-own.rest, c.requires.1.1))
     refl tt))

@@ -9,36 +9,36 @@ use Rattle.decode.proofs.Arms.{row_by, taken, op_arm, op_else, arm, arm_if, arm_
 use Rattle.decode.proofs.jump_or_branch.Statement.{statement}
 use Rattle.decode.proofs.jump_or_branch.Tie as tie
 
-pub jump-or-branch-spec : {M : Type 1} → statement M
+pub jump_or_branch_spec : {M : Type 1} → statement M
 unfolding row_by meaning reading outs flow_of target_in mark_of effect_of
-jump-or-branch-spec = tie.close (tie.spec
+jump_or_branch_spec = tie.close (tie.spec
     (λ c κs. search rules) (λ c κs. search rules) (λ c κs. search rules) (λ c κs. search rules)
     (λ c κs. search rules)
-    (λ c κs. (c.before.requires.0, (subst (λ (k : ℕ). NoneOf k branches) (sym c.before.requires.0) c.match.rest, c.before.requires.1)))
-    (λ c wide. op_arm c.before.requires.0 c.match.keys1 (λ va. refl))
-    (λ c wide. op_arm c.before.requires.0 c.match.keys2 (λ va. refl))
-    (λ c wide. let s = c.before.before in
-    op_else s.before.requires.0 s.match.keys3 rt c.before.rt.ensures c.if1.true (λ va. refl))
-    (λ c wide. let s = c.before.before.before.before in
-    arm_if (s.before.requires.0 ∙ s.match.keys3) rt (sym c.before.before.before.rt.ensures) c.before.before.if1.false
-    rs c.before.rs.ensures c.if2.true (λ va. refl))
-    (λ c wide. let s = c.before.before.before.before in
-    arm_else (s.before.requires.0 ∙ s.match.keys3) rt (sym c.before.before.before.rt.ensures) c.before.before.if1.false
-    rs c.before.rs.ensures c.if2.false (λ va. refl))
-    (λ c wide. let s = c.before.before in
-    arm (s.before.requires.0 ∙ s.match.keys4) rt (sym c.before.rt2.ensures) c.if3.true (λ va. refl))
-    (λ c wide. let s = c.before.before in
-    op_else s.before.requires.0 s.match.keys4 rt c.before.rt2.ensures c.if3.false (λ va. refl))
-    (λ c wide. let s = c.before.before in
-    arm (s.before.requires.0 ∙ s.match.keys5) rt (sym c.before.rt3.ensures) c.if4.true (λ va. refl))
-    (λ c wide. let s = c.before.before in
-    op_else s.before.requires.0 s.match.keys5 rt c.before.rt3.ensures c.if4.false (λ va. refl))
-    (λ c wide. let s = c.before.before in
-    arm (s.before.requires.0 ∙ s.match.keys6) rt (sym c.before.rt4.ensures) c.if5.true (λ va. refl))
-    (λ c wide. let s = c.before.before in
-    op_else s.before.requires.0 s.match.keys6 rt c.before.rt4.ensures c.if5.false (λ va. refl))
-    (λ c wide. op_arm c.before.requires.0 c.match.keys7 (λ va. refl))
-    (λ c wide. op_arm c.before.requires.0 c.match.keys8 (λ va. refl))
-    (λ c wide. op_arm c.before.requires.0 c.match.keys9 (λ va. refl))
-    (λ c wide. op_arm c.before.requires.0 c.match.keys10 (λ va. refl))
+    (λ c κs. (c.requires.0, (subst (λ (k : ℕ). NoneOf k branches) (sym c.requires.0) c.in_default.in_default-own.rest, c.requires.1)))
+    (λ c wide. op_arm c.requires.0 c.in-2.is (λ va. refl))
+    (λ c wide. op_arm c.requires.0 c.in-3.is (λ va. refl))
+    (λ c wide. let s = c in
+    op_else s.requires.0 s.in-4.is rt c.rt.ensures c.if-rt-ne0.true (λ va. refl))
+    (λ c wide. let s = c in
+    arm_if (s.requires.0 ∙ s.in-4.is) rt (sym c.rt.ensures) c.if-rt-ne0.false
+    rs c.rs.ensures c.if-rs-eq0.true (λ va. refl))
+    (λ c wide. let s = c in
+    arm_else (s.requires.0 ∙ s.in-4.is) rt (sym c.rt.ensures) c.if-rt-ne0.false
+    rs c.rs.ensures c.if-rs-eq0.false (λ va. refl))
+    (λ c wide. let s = c in
+    arm (s.requires.0 ∙ s.in-5.is) rt (sym c.rt-in-5.ensures) c.if-rt-eq0.true (λ va. refl))
+    (λ c wide. let s = c in
+    op_else s.requires.0 s.in-5.is rt c.rt-in-5.ensures c.if-rt-eq0.false (λ va. refl))
+    (λ c wide. let s = c in
+    arm (s.requires.0 ∙ s.in-20.is) rt (sym c.rt-in-20.ensures) c.if-rt-eq0-2.true (λ va. refl))
+    (λ c wide. let s = c in
+    op_else s.requires.0 s.in-20.is rt c.rt-in-20.ensures c.if-rt-eq0-2.false (λ va. refl))
+    (λ c wide. let s = c in
+    arm (s.requires.0 ∙ s.in-21.is) rt (sym c.rt-in-21.ensures) c.if-rt-eq0-3.true (λ va. refl))
+    (λ c wide. let s = c in
+    op_else s.requires.0 s.in-21.is rt c.rt-in-21.ensures c.if-rt-eq0-3.false (λ va. refl))
+    (λ c wide. op_arm c.requires.0 c.in-6.is (λ va. refl))
+    (λ c wide. op_arm c.requires.0 c.in-7.is (λ va. refl))
+    (λ c wide. op_arm c.requires.0 c.in-22.is (λ va. refl))
+    (λ c wide. op_arm c.requires.0 c.in-23.is (λ va. refl))
     (λ c. c.immediate.ensures))

@@ -11,20 +11,20 @@ use Rattle.decode.proofs.regimm.Tie as tie
 abbrev keys : List ℕ
 keys = 17 ∷ 16 ∷ 3 ∷ 2 ∷ 1 ∷ 0 ∷ []
 
-pub regimm-spec : {M : Type 1} → statement M
+pub regimm_spec : {M : Type 1} → statement M
 unfolding row_by number_by meaning reading outs flow_of target_in mark_of effect_of
-regimm-spec = tie.close (tie.spec
+regimm_spec = tie.close (tie.spec
     (λ c κs. search rules) (λ c κs. search rules) (λ c κs. search rules)
-    (λ c wide. arm c.before.before.requires rt (sym c.before.rt.ensures) c.match.keys1 (λ va. refl))
-    (λ c wide. let s = c.before.before in
-    arm_if s.before.before.requires rt (sym s.before.rt.ensures) s.match.keys2 rs c.before.rs.ensures c.if1.true (λ va. refl))
-    (λ c wide. let s = c.before.before in
-    arm_else s.before.before.requires rt (sym s.before.rt.ensures) s.match.keys2 rs c.before.rs.ensures c.if1.false (λ va. refl))
-    (λ c wide. arm c.before.before.requires rt (sym c.before.rt.ensures) c.match.keys3 (λ va. refl))
-    (λ c wide. arm c.before.before.requires rt (sym c.before.rt.ensures) c.match.keys4 (λ va. refl))
-    (λ c wide. arm c.before.before.requires rt (sym c.before.rt.ensures) c.match.keys5 (λ va. refl))
-    (λ c wide. let s = c.before.before in
-    arm_if s.before.before.requires rt (sym s.before.rt.ensures) s.match.keys6 rs c.before.rs2.ensures c.if2.true (λ va. refl))
-    (λ c wide. let s = c.before.before in
-    arm_else s.before.before.requires rt (sym s.before.rt.ensures) s.match.keys6 rs c.before.rs2.ensures c.if2.false (λ va. refl))
-    (λ c wide. arm_rest c.before.before.requires rt (sym c.before.rt.ensures) keys c.match.rest refl tt))
+    (λ c wide. arm c.requires rt (sym c.rt-rt.ensures) c.in-0.is (λ va. refl))
+    (λ c wide. let s = c in
+    arm_if s.requires rt (sym s.rt-rt.ensures) s.in-1.is rs c.rs.ensures c.if-rs-eq0.true (λ va. refl))
+    (λ c wide. let s = c in
+    arm_else s.requires rt (sym s.rt-rt.ensures) s.in-1.is rs c.rs.ensures c.if-rs-eq0.false (λ va. refl))
+    (λ c wide. arm c.requires rt (sym c.rt-rt.ensures) c.in-2.is (λ va. refl))
+    (λ c wide. arm c.requires rt (sym c.rt-rt.ensures) c.in-3.is (λ va. refl))
+    (λ c wide. arm c.requires rt (sym c.rt-rt.ensures) c.in-16.is (λ va. refl))
+    (λ c wide. let s = c in
+    arm_if s.requires rt (sym s.rt-rt.ensures) s.in-17.is rs c.rs-in-17.ensures c.if-rs-eq0-2.true (λ va. refl))
+    (λ c wide. let s = c in
+    arm_else s.requires rt (sym s.rt-rt.ensures) s.in-17.is rs c.rs-in-17.ensures c.if-rs-eq0-2.false (λ va. refl))
+    (λ c wide. arm_rest c.requires rt (sym c.rt-rt.ensures) keys c.in_default.in_default-own.rest refl tt))

@@ -11,14 +11,14 @@ use Rattle.decode.proofs.special2.Tie as tie
 abbrev keys : List ℕ
 keys = 33 ∷ 32 ∷ 4 ∷ 2 ∷ 1 ∷ 0 ∷ []
 
-pub special2-spec : {M : Type 1} → statement M
+pub special2_spec : {M : Type 1} → statement M
 unfolding row_by number_by meaning
-special2-spec = tie.close (tie.spec
+special2_spec = tie.close (tie.spec
     (λ c κs. search rules)
-    (λ c wide. arm c.before.before.requires funct (sym c.before.funct.ensures) c.match.keys1 (λ va. refl))
-    (λ c wide. arm c.before.before.requires funct (sym c.before.funct.ensures) c.match.keys2 (λ va. refl))
-    (λ c wide. arm c.before.before.requires funct (sym c.before.funct.ensures) c.match.keys3 (λ va. refl))
-    (λ c wide. arm c.before.before.requires funct (sym c.before.funct.ensures) c.match.keys4 (λ va. refl))
-    (λ c wide. arm c.before.before.requires funct (sym c.before.funct.ensures) c.match.keys5 (λ va. refl))
-    (λ c wide. arm c.before.before.requires funct (sym c.before.funct.ensures) c.match.keys6 (λ va. refl))
-    (λ c wide. arm_rest c.before.before.requires funct (sym c.before.funct.ensures) keys c.match.rest refl tt))
+    (λ c wide. arm c.requires funct (sym c.funct-funct.ensures) c.in-0.is (λ va. refl))
+    (λ c wide. arm c.requires funct (sym c.funct-funct.ensures) c.in-1.is (λ va. refl))
+    (λ c wide. arm c.requires funct (sym c.funct-funct.ensures) c.in-2.is (λ va. refl))
+    (λ c wide. arm c.requires funct (sym c.funct-funct.ensures) c.in-4.is (λ va. refl))
+    (λ c wide. arm c.requires funct (sym c.funct-funct.ensures) c.in-32.is (λ va. refl))
+    (λ c wide. arm c.requires funct (sym c.funct-funct.ensures) c.in-33.is (λ va. refl))
+    (λ c wide. arm_rest c.requires funct (sym c.funct-funct.ensures) keys c.in_default.in_default-own.rest refl tt))

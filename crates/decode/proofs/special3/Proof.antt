@@ -14,19 +14,19 @@ outer = 59 ∷ 32 ∷ 4 ∷ 0 ∷ []
 abbrev inner : List ℕ
 inner = 24 ∷ 16 ∷ 2 ∷ []
 
-pub special3-spec : {M : Type 1} → statement M
+pub special3_spec : {M : Type 1} → statement M
 unfolding row_by number_by meaning
-special3-spec = tie.close (tie.spec
+special3_spec = tie.close (tie.spec
     (λ c κs. search rules) (λ c κs. search rules)
-    (λ c wide. arm c.before.before.requires funct (sym c.before.funct.ensures) c.match.keys1 (λ va. refl))
-    (λ c wide. arm c.before.before.requires funct (sym c.before.funct.ensures) c.match.keys2 (λ va. refl))
-    (λ c wide. let s = c.before.before in
-    arm_if s.before.before.requires funct (sym s.before.funct.ensures) s.match.keys3 sa c.before.sa.ensures c.match2.keys1 (λ va. refl))
-    (λ c wide. let s = c.before.before in
-    arm_if s.before.before.requires funct (sym s.before.funct.ensures) s.match.keys3 sa c.before.sa.ensures c.match2.keys2 (λ va. refl))
-    (λ c wide. let s = c.before.before in
-    arm_if s.before.before.requires funct (sym s.before.funct.ensures) s.match.keys3 sa c.before.sa.ensures c.match2.keys3 (λ va. refl))
-    (λ c wide. let s = c.before.before in
-    arm_if_rest s.before.before.requires funct (sym s.before.funct.ensures) s.match.keys3 sa inner c.before.sa.ensures c.match2.rest refl tt)
-    (λ c wide. arm c.before.before.requires funct (sym c.before.funct.ensures) c.match.keys4 (λ va. refl))
-    (λ c wide. arm_rest c.before.before.requires funct (sym c.before.funct.ensures) outer c.match.rest refl tt))
+    (λ c wide. arm c.requires funct (sym c.funct-funct.ensures) c.in-0.is (λ va. refl))
+    (λ c wide. arm c.requires funct (sym c.funct-funct.ensures) c.in-4.is (λ va. refl))
+    (λ c wide. let s = c in
+    arm_if s.requires funct (sym s.funct-funct.ensures) s.in-32.is sa c.sa-sa.ensures c.in-2.is (λ va. refl))
+    (λ c wide. let s = c in
+    arm_if s.requires funct (sym s.funct-funct.ensures) s.in-32.is sa c.sa-sa.ensures c.in-16.is (λ va. refl))
+    (λ c wide. let s = c in
+    arm_if s.requires funct (sym s.funct-funct.ensures) s.in-32.is sa c.sa-sa.ensures c.in-24.is (λ va. refl))
+    (λ c wide. let s = c in
+    arm_if_rest s.requires funct (sym s.funct-funct.ensures) s.in-32.is sa inner c.sa-sa.ensures c.in_default-sa.in_default-sa-own.rest refl tt)
+    (λ c wide. arm c.requires funct (sym c.funct-funct.ensures) c.in-59.is (λ va. refl))
+    (λ c wide. arm_rest c.requires funct (sym c.funct-funct.ensures) outer c.in_default.in_default-own.rest refl tt))

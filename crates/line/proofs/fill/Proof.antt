@@ -14,15 +14,15 @@ use Rattle.line.proofs.Operands.{Turn, begins, turn, ends, line_of_lem, room, ne
 use Rattle.line.proofs.fill.Statement.{statement}
 use Rattle.line.proofs.fill.Tie as tie
 
-abbrev invariant-loop : tie.invariant-loop
-invariant-loop line₀ at₀ ops count k₀ line at k = Turn plain ops count line₀ at₀ line at k
+abbrev invariant-loop-k : tie.invariant-loop-k
+invariant-loop-k line₀ at₀ ops count k₀ line at k = Turn plain ops count line₀ at₀ line at k
 
-abbrev decreases-loop : tie.decreases-loop
-decreases-loop line₀ at₀ ops count k₀ line at k = count - k
+abbrev decreases-loop-k : tie.decreases-loop-k
+decreases-loop-k line₀ at₀ ops count k₀ line at k = count - k
 
 -- the mnemonic is written: where the function starts, and what is in the line
-module _ (w : tie.After-name2 invariant-loop decreases-loop) where
-  abbrev start : tie.Start invariant-loop decreases-loop
+module _ (w : tie.After-name-at invariant-loop-k decreases-loop-k) where
+  abbrev start : tie.Start invariant-loop-k decreases-loop-k
   start = let v = w.before.before.before in v.before
 
   abbrev i : Insn
@@ -33,53 +33,53 @@ module _ (w : tie.After-name2 invariant-loop decreases-loop) where
 
   mnemonic :
       Wrote 0 longest_mnemonic (text_of (name_of i.mnemonic)) start.args.line.now
-      w.name2.last.1.0 w.name2.result
+      w.name-at.last.1.0 w.name-at.result
   mnemonic =
       let v = w.before.before.before in
-      mnemonic_wrote i.mnemonic start.args.line.now v.name_of.ensures (omega (arith, size))
-      w.name2.ensures.0 w.name2.ensures.1
+      mnemonic_wrote i.mnemonic start.args.line.now v.name_of-name.ensures (omega (arith, size))
+      w.name-at.ensures.0 w.name-at.ensures.1
 
-loop-holds : tie.Need-loop-init invariant-loop decreases-loop
-loop-holds c =
+loop-k-init : tie.Need-loop-k-init invariant-loop-k decreases-loop-k
+loop-k-init c =
     let w = c.before.before in
-    let slots : length (i w).ops ≡ 4 = simp length-map at (start w).well-formed.0.1.1.1.1.0.1.0.1 in
+    let slots : length (i w).ops-1 ≡ 4 = simp length-map at (start w).well-formed.0.1.1.1.1.0.1.0.1 in
     begins plain (i w) (start w).requires slots (size w) (mnemonic w)
 
-separator-requires : tie.Need-separator-requires invariant-loop decreases-loop
-separator-requires c κs =
-    let l = c.before.before.before.loop in
-    omega (arith, room l.invariant c.before.before.loop-test.true)
+separator-next-requires : tie.Need-separator-next-requires invariant-loop-k decreases-loop-k
+separator-next-requires c κs =
+    let l = c.loop-k in
+    omega (arith, room l.invariant c.loop-k-test.true)
 
-operand-requires : tie.Need-operand-requires invariant-loop decreases-loop
-operand-requires c κs =
+operand-at-requires : tie.Need-operand-at-requires invariant-loop-k decreases-loop-k
+operand-at-requires c κs =
     let w = c.before in
     let t = w.before.before.before in
-    let l = t.before.loop in
-    let h = t.loop-test.true in
-    (next_registered l.invariant h, next_room l.invariant h w.separator.ensures)
+    let l = t.loop-k in
+    let h = t.loop-k-test.true in
+    (next_registered l.invariant h, next_room l.invariant h w.separator-next.ensures)
 
-loop-again : tie.Need-loop-preserved invariant-loop decreases-loop
-loop-again c =
+loop-k-preserved : tie.Need-loop-k-preserved invariant-loop-k decreases-loop-k
+loop-k-preserved c =
     let w = c.before.before in
     let t = w.before.before.before in
-    turn t.before.loop.invariant t.loop-test.true w.separator.ensures c.operand.ensures
+    turn t.loop-k.invariant t.loop-k-test.true w.separator-next.ensures c.operand-at.ensures
 
-returns : tie.Need-returns invariant-loop decreases-loop
+returns : tie.Need-returns invariant-loop-k decreases-loop-k
 returns c =
     let t = c.before.before in
     let w = t.before.before in
-    line_of_lem plain (i w) (mnemonic w) (ends c.before.loop.invariant c.loop-test.false)
+    line_of_lem plain (i w) (mnemonic w) (ends c.loop-k.invariant c.loop-k-test.false)
 
 pub fill_spec : {M : Type 1} → statement M
 fill_spec = tie.close (tie.spec
-    invariant-loop
-    decreases-loop
+    invariant-loop-k
+    decreases-loop-k
     (λ c κs. search rules) (λ c. search rules) (λ c κs. search rules) (λ c. search rules)
-    loop-holds
+    loop-k-init
     (λ c. search rules)
-    (λ c. omega (arith, c.before.loop.invariant.four))
-    separator-requires
-    operand-requires
+    (λ c. omega (arith, c.loop-k.invariant.four))
+    separator-next-requires
+    operand-at-requires
     (λ c. search rules) (λ c. search rules)
-    loop-again
+    loop-k-preserved
     returns)

@@ -17,7 +17,7 @@ abbrev start : tie.After-decimal → tie.Start
 start w = w.before.before.before
 
 number : (w : tie.After-decimal) →
-    Wrote (start w).args.at 20 (decimal_of (start w).args.offset) (start w).args.line.now w.decimal.new.1.0
+    Wrote (start w).args.at 20 (decimal_of (start w).args.offset) (start w).args.line.now w.decimal.new.out
     ((start w).args.at + w.decimal.result)
 number w =
     let s = start w in
@@ -28,26 +28,26 @@ number w =
 abbrev opened : tie.After-put1 → tie.After-decimal
 opened w = let v = w.before.before in v.before.before
 
-add_open : tie.Need-overflow-add-open
-add_open c = let w = c.before.before in omega (arith, (number w).short, (start w).requires)
+overflow_add-open : tie.Need-overflow_add-open
+overflow_add-open c = let w = c.before.before in omega (arith, (number w).short, (start w).requires)
 
-add-register : tie.Need-overflow-add-register
-add-register c =
+overflow_add-open-2 : tie.Need-overflow_add-open-2
+overflow_add-open-2 c =
     let w = opened c.before.before.before in
     omega (arith, (number w).short, (start w).pre)
 
-register-requires : tie.Need-register-requires
-register-requires c κs =
+register-close-requires : tie.Need-register-close-requires
+register-close-requires c κs =
     let w = opened c.before.before.before in
     ((start w).pre.0, omega (arith, (number w).short, (start w).pre))
 
-add-result : tie.Need-overflow-add-result
-add-result c =
+overflow_add-result : tie.Need-overflow_add-result
+overflow_add-result c =
     let v = c.before.before.before in
     let base = v.before.before.before in
     let u = base.before.before in
     let w = opened u.before.before in
-    omega (arith, (number w).short, (start w).pre, base.register.ensures.short)
+    omega (arith, (number w).short, (start w).pre, base.register-close.ensures.short)
 
 returns : tie.Need-returns
 unfolding op_text text_of letters letter
@@ -61,22 +61,22 @@ returns c =
     let s = start w₁ in
     let h : s.args.at ≤ length s.args.line.now = omega (arith, s.pre) in
     let left = s.args.at + w₁.decimal.result in
-    let right = w₃.register.result in
+    let right = w₃.register-close.result in
     let most = (number w₁).short in
-    let left-done : Wrote left 1 (40 ∷ []) w₁.decimal.last.1.0 w₂.put1.new.1.0 (left + 1) =
+    let left-done : Wrote left 1 (40 ∷ []) w₁.decimal.last.1.0 w₂.put1.new.dst (left + 1) =
     wrote (omega arith) (omega (arith, s.pre, most)) refl w₂.put1.ensures in
-    let right-done : Wrote right 1 (41 ∷ []) w₃.register.new.1.0 w₄.put12.new.1.0 (right + 1) =
-    wrote (omega arith) (omega (arith, s.pre, most, w₃.register.ensures.short)) refl w₄.put12.ensures in
-    after (after (after (number w₁) left-done h) w₃.register.ensures h) right-done h
+    let right-done : Wrote right 1 (41 ∷ []) w₃.register-close.new.line w₄.put1-2.new.dst (right + 1) =
+    wrote (omega arith) (omega (arith, s.pre, most, w₃.register-close.ensures.short)) refl w₄.put1-2.ensures in
+    after (after (after (number w₁) left-done h) w₃.register-close.ensures h) right-done h
 
-pub memory-spec : {M : Type 1} → statement M
-memory-spec = tie.close (tie.spec
+pub memory_spec : {M : Type 1} → statement M
+memory_spec = tie.close (tie.spec
     (λ c κs. search rules)
-    add_open
+    overflow_add-open
     (λ c κs. search rules)
-    add-register
-    register-requires
+    overflow_add-open-2
+    register-close-requires
     (λ c κs. search rules)
-    add-result
+    overflow_add-result
     (λ c. search rules)
     returns)

@@ -13,8 +13,8 @@ use Rattle.line.proofs.numbered.Tie as tie
 abbrev start : tie.After-put → tie.Start
 start a = let w = a.before.before in w.before.before
 
-add-result : tie.Need-overflow-add-result
-add-result c =
+overflow_add-result : tie.Need-overflow_add-result
+overflow_add-result c =
     let w = c.before.before.before in
     let a = w.before.before.before in
     let s = start a in
@@ -26,15 +26,15 @@ returns c =
     let w = b.before in
     let a = w.before.before.before in
     let s = start a in
-    let l = s.args.before.now in
+    let l = s.args.now in
     let room : s.args.at + length l ≤ length s.args.line.now = omega (arith, s.pre) in
     let most = numeral_most 10 s.args.r in
-    let first : Wrote s.args.at 3 l s.args.line.now a.put.new.1.0 (s.args.at + length l) =
+    let first : Wrote s.args.at 3 l s.args.line.now a.put.new.dst (s.args.at + length l) =
     wrote s.pre.0 room refl a.put.ensures in
     bound (omega (arith, s.pre, b.count.ensures.0, most))
     (after first
     (wrote most (omega (arith, s.pre, kept first room, most)) b.count.ensures.0 b.count.ensures.1)
     (omega arith))
 
-pub numbered-spec : {M : Type 1} → statement M
-numbered-spec = tie.close (tie.spec (λ c κs. search rules) (λ c. search rules) (λ c κs. search rules) add-result (λ c. search rules) returns)
+pub numbered_spec : {M : Type 1} → statement M
+numbered_spec = tie.close (tie.spec (λ c κs. search rules) (λ c. search rules) (λ c κs. search rules) overflow_add-result (λ c. search rules) returns)

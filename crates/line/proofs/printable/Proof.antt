@@ -1,6 +1,6 @@
 -- `line::printable` meets its contract: after k turns it is known of the first k operands.
 use borrow.Author.Rules.{rules}
-use borrow.Author.Tests.{lt-ltb, le-ltb, le-leb, lt-leb, not-true, not-false}
+use borrow.Author.Tests.{lt-ltb, le-ltb, le-leb, lt-leb}
 use mathlib.Core.Path.{◌≡◌, refl, sym, ◌∙◌}
 use Prim.Native.Nat.{◌≤◌, ◌-◌}
 use native.Mathlib.Omega.{arith}
@@ -12,80 +12,80 @@ use Rattle.line.proofs.Operands.{rest, stops, goes_on, all_done}
 use Rattle.line.proofs.printable.Statement.{statement}
 use Rattle.line.proofs.printable.Tie as tie
 
-abbrev invariant-loop : tie.invariant-loop
-invariant-loop ops count k₀ k = (k ≤ count) × (all_registered (rest 0 count ops) ≡ all_registered (rest k count ops))
+abbrev invariant-loop-k : tie.invariant-loop-k
+invariant-loop-k ops count k₀ k = (k ≤ count) × (all_registered (rest 0 count ops) ≡ all_registered (rest k count ops))
 
-abbrev decreases-loop : tie.decreases-loop
-decreases-loop ops count k₀ k = count - k
+abbrev decreases-loop-k : tie.decreases-loop-k
+decreases-loop-k ops count k₀ k = count - k
 
-returns : tie.Need-returns invariant-loop decreases-loop
+returns-then-i-ge-MANY : tie.Need-returns-then-i-ge-MANY invariant-loop-k decreases-loop-k
 unfolding printable
-returns c = rw (le-ltb c.before.before.args.i.mnemonic many (omega (arith, c.if1.true)))
+returns-then-i-ge-MANY c = rw (le-ltb c.args.i.mnemonic many (omega (arith, c.if-i-ge-MANY.true)))
 
-returns-2 : tie.Need-returns-2 invariant-loop decreases-loop
+returns-then-i-gt-OPERANDS : tie.Need-returns-then-i-gt-OPERANDS invariant-loop-k decreases-loop-k
 unfolding printable
-returns-2 c =
+returns-then-i-gt-OPERANDS c =
     let named = c.before.before in
-    let i = named.before.before.args.i in
-    rw (lt-ltb i.mnemonic many (omega (arith, named.if1.false)), lt-leb i.count 4 c.if2.true)
+    let i = named.args.i in
+    rw (lt-ltb i.mnemonic many (omega (arith, named.if-i-ge-MANY.false)), lt-leb i.count 4 c.if-i-gt-OPERANDS.true)
 
 -- before the loop the mnemonic was found to have a name, and the operands to be few
-module _ (turn : tie.At-loop invariant-loop decreases-loop) where
-  abbrev few : tie.Else2 invariant-loop decreases-loop
+module _ (turn : tie.At-loop-k invariant-loop-k decreases-loop-k) where
+  abbrev few : tie.Else-i-gt-OPERANDS invariant-loop-k decreases-loop-k
   few = turn.before.before.before
 
-  abbrev named : tie.Else1 invariant-loop decreases-loop
+  abbrev named : tie.Else-i-ge-MANY invariant-loop-k decreases-loop-k
   named = few.before.before
 
-  abbrev start : tie.Start invariant-loop decreases-loop
+  abbrev start : tie.Start invariant-loop-k decreases-loop-k
   start = named.before.before
 
   abbrev i : Insn
   i = start.args.i
 
-  inside : i.count ≤ length i.ops
+  inside : i.count ≤ length i.ops-1
   inside =
-      let four : length i.ops ≡ 4 = simp length-map at start.good.0.1.1.1.1.0.1.0.1 in
-      omega (arith, few.if2.left)
+      let four : length i.ops-1 ≡ 4 = simp length-map at start.good.0.1.1.1.1.0.1.0.1 in
+      omega (arith, few.if-i-gt-OPERANDS.left)
 
   -- so its registers are what is left to ask
-  asks : printable i ≡ all_registered (rest 0 i.count i.ops)
+  asks : printable i ≡ all_registered (rest 0 i.count i.ops-1)
   unfolding printable
-  asks = rw (lt-ltb i.mnemonic many (omega (arith, named.if1.left)), le-leb i.count 4 few.if2.left)
+  asks = rw (lt-ltb i.mnemonic many (omega (arith, named.if-i-ge-MANY.left)), le-leb i.count 4 few.if-i-gt-OPERANDS.left)
 
-returns-3 : tie.Need-returns-3 invariant-loop decreases-loop
-returns-3 c =
+returns-then-not-registered : tie.Need-returns-then-not-registered invariant-loop-k decreases-loop-k
+returns-then-not-registered c =
     let asked = c.before in
     let turn = asked.before.before.before in
-    let l = turn.loop in
-    let none = sym asked.registered.ensures ∙ not-true _ c.if3.true in
-    sym (asks turn ∙ l.invariant.1 ∙ stops l.k (i turn).count (i turn).ops (omega arith) (inside turn) none)
+    let l = turn.loop-k in
+    let none = sym asked.registered.ensures ∙ c.if-not-registered.true in
+    sym (asks turn ∙ l.invariant.1 ∙ stops l.k (i turn).count (i turn).ops-1 (omega arith) (inside turn) none)
 
-loop-again : tie.Need-loop-preserved invariant-loop decreases-loop
-loop-again c =
+loop-k-preserved : tie.Need-loop-k-preserved invariant-loop-k decreases-loop-k
+loop-k-preserved c =
     let asked = c.before in
     let turn = asked.before.before.before in
-    let l = turn.loop in
-    let some = sym asked.registered.ensures ∙ not-false _ c.if3.false in
-    (omega arith, l.invariant.1 ∙ goes_on l.k (i turn).count (i turn).ops (omega arith) (inside turn) some)
+    let l = turn.loop-k in
+    let some = sym asked.registered.ensures ∙ c.if-not-registered.false in
+    (omega arith, l.invariant.1 ∙ goes_on l.k (i turn).count (i turn).ops-1 (omega arith) (inside turn) some)
 
-returns-4 : tie.Need-returns-4 invariant-loop decreases-loop
-returns-4 c =
+returns : tie.Need-returns invariant-loop-k decreases-loop-k
+returns c =
     let turn = c.before in
-    let l = turn.loop in
+    let l = turn.loop-k in
     let e : l.k ≡ (i turn).count = omega arith in
-    sym (asks turn ∙ rw e at l.invariant.1 ∙ all_done (i turn).count (i turn).ops)
+    sym (asks turn ∙ rw e at l.invariant.1 ∙ all_done (i turn).count (i turn).ops-1)
 
-pub printable-spec : {M : Type 1} → statement M
-printable-spec = tie.close (tie.spec
-    invariant-loop
-    decreases-loop
-    returns
-    returns-2
+pub printable_spec : {M : Type 1} → statement M
+printable_spec = tie.close (tie.spec
+    invariant-loop-k
+    decreases-loop-k
+    returns-then-i-ge-MANY
+    returns-then-i-gt-OPERANDS
     (λ c. search rules)
     (λ c. (omega arith, refl))
     (λ c. search rules) (λ c. search rules) (λ c κs. search rules)
-    returns-3
+    returns-then-not-registered
     (λ c. search rules) (λ c. search rules)
-    loop-again
-    returns-4)
+    loop-k-preserved
+    returns)

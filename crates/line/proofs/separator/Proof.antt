@@ -7,26 +7,26 @@ use Rattle.buffers.proofs.Writes.{wrote}
 use Rattle.line.proofs.separator.Statement.{statement}
 use Rattle.line.proofs.separator.Tie as tie
 
-returns : tie.Need-returns
+returns-then-k-eq0 : tie.Need-returns-then-k-eq0
 unfolding text_of letters letter
-returns c =
+returns-then-k-eq0 c =
     let w = c.before.before in
     let t = w.before.before in
-    let s = t.before.before in
-    rw (eq-eqb s.args.k 0 t.if1.true) (wrote (omega arith) (omega (arith, s.requires)) refl w.put1.ensures)
+    let s = t in
+    rw (eq-eqb s.args.k 0 t.if-k-eq0.true) (wrote (omega arith) (omega (arith, s.requires)) refl w.put1.ensures)
 
-returns-2 : tie.Need-returns-2
+returns-else-k-eq0 : tie.Need-returns-else-k-eq0
 unfolding text_of letters letter
-returns-2 c =
+returns-else-k-eq0 c =
     let w = c.before.before in
     let t = w.before.before.before in
-    let s = t.before.before in
-    rw (ne_eqb s.args.k 0 t.if1.false) (wrote (omega arith) (omega (arith, s.requires)) refl w.put.ensures)
+    let s = t in
+    rw (ne_eqb s.args.k 0 t.if-k-eq0.false) (wrote (omega arith) (omega (arith, s.requires)) refl w.put.ensures)
 
-pub separator-spec : {M : Type 1} → statement M
-separator-spec = tie.close (tie.spec
+pub separator_spec : {M : Type 1} → statement M
+separator_spec = tie.close (tie.spec
     (λ c κs. search rules) (λ c. search rules) (λ c. search rules) (λ c κs. search rules) (λ c. search rules)
     (λ c. search rules)
-    returns
+    returns-then-k-eq0
     (λ c. search rules)
-    returns-2)
+    returns-else-k-eq0)

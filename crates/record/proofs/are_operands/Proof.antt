@@ -24,31 +24,31 @@ module _ (i : Insn) (l : List ℕ) (h : 64 ≤ length l) where
   at-3 = slot_3 (slot i 0) (slot i 1) (slot i 2) (slot i 3) l refl refl refl h
 
 -- the first three are as the reading says
-returns : tie.Need-returns
-returns c =
+returns-then-is_operand-3 : tie.Need-returns-then-is_operand-3
+returns-then-is_operand-3 c =
     let third = c.before in
     let second = third.before.before in
     let first = second.before.before in
-    let s = first.before.before.before in
+    let s = first in
     let i = s.args.d.insn in
     let l = s.args.b.now in
     let h : 64 ≤ length l = omega arith in
-    decides c.is-operand4.ensures (at-3 i l h)
+    decides c.is_operand-then-is_operand-3.ensures (at-3 i l h)
     (all_slots (slot i 0) (slot i 1) (slot i 2) (slot i 3) l refl refl refl h
-    (first.before.is-operand.ensures.0 first.if1.true)
-    (second.before.is-operand2.ensures.0 second.if2.true)
-    (third.before.is-operand3.ensures.0 third.if3.true))
+    (first.is_operand.ensures.0 first.if-is_operand.true)
+    (second.is_operand-then-is_operand.ensures.0 second.if-is_operand-2.true)
+    (third.is_operand-then-is_operand-2.ensures.0 third.if-is_operand-3.true))
 
-pub are-operands-spec : {M : Type 1} → statement M
-are-operands-spec = tie.close (tie.spec
+pub are_operands_spec : {M : Type 1} → statement M
+are_operands_spec = tie.close (tie.spec
     (λ c κs. search rules) (λ c κs. search rules) (λ c κs. search rules) (λ c κs. search rules)
-    returns
+    returns-then-is_operand-3
     (λ c. let second = c.before.before in
     let first = second.before.before in
-    let a = first.before.before.before.args in
-    ends_no c.before.is-operand3.ensures (at-2 a.d.insn a.b.now (omega arith)) c.if3.false)
+    let a = first.args in
+    ends_no c.is_operand-then-is_operand-2.ensures (at-2 a.d.insn a.b.now (omega arith)) c.if-is_operand-3.false)
     (λ c. let first = c.before.before in
-    let a = first.before.before.before.args in
-    ends_no c.before.is-operand2.ensures (at_1 a.d.insn a.b.now (omega arith)) c.if2.false)
-    (λ c. let a = c.before.before.before.args in
-    ends_no c.before.is-operand.ensures (at-0 a.d.insn a.b.now (omega arith)) c.if1.false))
+    let a = first.args in
+    ends_no c.is_operand-then-is_operand.ensures (at_1 a.d.insn a.b.now (omega arith)) c.if-is_operand-2.false)
+    (λ c. let a = c.args in
+    ends_no c.is_operand.ensures (at-0 a.d.insn a.b.now (omega arith)) c.if-is_operand.false))

@@ -16,23 +16,23 @@ returns c =
     let first-put = second-put.before.before.before.before in
     let number_put = first-put.before.before.before.before in
     let parts = number_put.before.before in
-    let s = parts.before.before.before in
+    let s = parts in
     let d = s.args.out.now in
     let p : Parts = effect_parts s.args.d.insn.effect in
-    let e = parts.effect_parts.ensures in
+    let e = parts.effect_parts-p.ensures in
     let low = value.value_of.ensures ∙ ap (λ (q : Parts). value_of q % 2 ^ 64) e in
     next_at 12 16 (p.number ∷ p.first ∷ p.second ∷ p.size ∷ []) (low_bytes 8 (value_of p)) d refl (omega arith)
     (next_at 12 15 (p.number ∷ p.first ∷ p.second ∷ []) (p.size ∷ []) d refl (omega arith)
     (next_at 12 14 (p.number ∷ p.first ∷ []) (p.second ∷ []) d refl (omega arith)
     (next_at 12 13 (p.number ∷ []) (p.first ∷ []) d refl (omega arith)
     (first_at 12 (p.number ∷ []) d (omega arith) (byte (ap (λ (q : Parts). q.number) e)) number_put.put1.ensures)
-    (byte (ap (λ (q : Parts). q.first) e)) first-put.put12.ensures)
-    (byte (ap (λ (q : Parts). q.second) e)) second-put.put13.ensures)
-    (byte (ap (λ (q : Parts). q.size) e)) size-put.put14.ensures)
+    (byte (ap (λ (q : Parts). q.first) e)) first-put.put1-2.ensures)
+    (byte (ap (λ (q : Parts). q.second) e)) second-put.put1-3.ensures)
+    (byte (ap (λ (q : Parts). q.size) e)) size-put.put1-4.ensures)
     (low8 _ (value_of p) low) value-put.put8.ensures
 
-pub effect-spec : {M : Type 1} → statement M
-effect-spec = tie.close (tie.spec
+pub effect_spec : {M : Type 1} → statement M
+effect_spec = tie.close (tie.spec
     (λ c κs. search rules) (λ c κs. search rules) (λ c. search rules) (λ c κs. search rules) (λ c. search rules)
     (λ c κs. search rules) (λ c. search rules) (λ c κs. search rules) (λ c κs. search rules) (λ c κs. search rules)
     (λ c. search rules)

@@ -5,40 +5,40 @@ use Rattle.record.proofs.Cases.{no_case}
 use Rattle.record.proofs.effect_by.Statement.{statement}
 use Rattle.record.proofs.effect_by.Tie as tie
 
-returns : tie.Need-returns
-returns c = rw c.match.keys1
+returns-in-1 : tie.Need-returns-in-1
+returns-in-1 c = rw c.in-1.is
 
-returns-2 : tie.Need-returns-2
-returns-2 c =
-    let a = c.before.before.args in
-    rw c.before.match.keys2
+returns-in-2 : tie.Need-returns-in-2
+returns-in-2 c =
+    let a = c.args in
+    rw c.in-2.is
     (ap (effect.AddImm a.first a.second)
-    (to_z-of_z {w = w64} (record { sfits = c.signed.type-inv }) ∙ c.signed.ensures))
+    (to_z-of_z {w = w64} (record { sfits = c.signed.type_inv }) ∙ c.signed.ensures))
 
-returns-3 : tie.Need-returns-3
-returns-3 c =
-    let a = c.before.before.args in
-    rw c.before.match.keys3
+returns-in-3 : tie.Need-returns-in-3
+returns-in-3 c =
+    let a = c.args in
+    rw c.in-3.is
     (ap (λ (z : ℤ). effect.Mem a.first a.second z a.width)
-    (to_z-of_z {w = w64} (record { sfits = c.signed2.type-inv }) ∙ c.signed2.ensures))
+    (to_z-of_z {w = w64} (record { sfits = c.signed-in-3.type_inv }) ∙ c.signed-in-3.ensures))
 
-returns-4 : tie.Need-returns-4
-returns-4 c = rw c.match.keys4
+returns-in-4 : tie.Need-returns-in-4
+returns-in-4 c = rw c.in-4.is
 
-returns-5 : tie.Need-returns-5
-returns-5 c =
-    let a = c.before.args in
+returns-in_default : tie.Need-returns-in_default
+returns-in_default c =
+    let a = c.args in
     let z : ℤ = signed 64 a.v in
     let cases =
     effect.None ∷ effect.SetAddr a.first a.v ∷ effect.AddImm a.first a.second z ∷
     effect.Mem a.first a.second z a.width ∷ effect.Write a.first ∷ [] in
-    sym (no_case cases effect.None a.n refl (λ p. omega (arith, p, c.match.rest)))
+    sym (no_case cases effect.None a.n refl (λ p. omega (arith, p, c.in_default.in_default-own.rest)))
 
-pub effect-by-spec : {M : Type 1} → statement M
-effect-by-spec = tie.close (tie.spec
+pub effect_by_spec : {M : Type 1} → statement M
+effect_by_spec = tie.close (tie.spec
     (λ c κs. search rules) (λ c κs. search rules)
-    returns
-    returns-2
-    returns-3
-    returns-4
-    returns-5)
+    returns-in-1
+    returns-in-2
+    returns-in-3
+    returns-in-4
+    returns-in_default)

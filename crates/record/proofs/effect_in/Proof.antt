@@ -5,13 +5,13 @@ use Rattle.record.proofs.effect_in.Tie as tie
 
 returns : tie.Need-returns
 returns c =
-    let get = c.before in
-    let l = get.before.before.before.before.before.before.args.b.now in
-    c.effect-by.ensures
+    let get = c in
+    let l = get.args.b.now in
+    c.effect_by.ensures
     ∙ ap (effect_by (byte_at 12 l) (byte_at 13 l) (byte_at 14 l) (byte_at 15 l)) get.get8.ensures.0
 
-pub effect-in-spec : {M : Type 1} → statement M
-effect-in-spec = tie.close (tie.spec
+pub effect_in_spec : {M : Type 1} → statement M
+effect_in_spec = tie.close (tie.spec
     (λ c. search rules) (λ c. search rules) (λ c. search rules) (λ c. search rules) (λ c. search rules)
     (λ c. search rules) (λ c. search rules) (λ c κs. search rules) (λ c κs. search rules)
     returns)

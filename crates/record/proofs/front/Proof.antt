@@ -8,12 +8,12 @@ returns : tie.Need-returns
 returns c =
     let effect-put = c.before.before in
     let head-put = effect-put.before.before.before.before in
-    let s = head-put.before.before.before in
+    let s = head-put in
     let i = s.args.d.insn in
     then_at 0 12 (head_bytes i) (effect_bytes i.effect) s.args.out.now refl (omega arith)
     head-put.head.ensures effect-put.effect.ensures
 
-pub front-spec : {M : Type 1} → statement M
-front-spec = tie.close (tie.spec
+pub front_spec : {M : Type 1} → statement M
+front_spec = tie.close (tie.spec
     (λ c κs. search rules) (λ c κs. search rules) (λ c. search rules)
     returns)

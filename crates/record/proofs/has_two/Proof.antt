@@ -5,22 +5,22 @@ use Rattle.record.proofs.has_two.Statement.{statement}
 use Rattle.record.proofs.has_two.Tie as tie
 
 -- both bytes are as asked for
-returns : tie.Need-returns
-returns c =
+returns-then-b-at-2 : tie.Need-returns-then-b-at-2
+returns-then-b-at-2 c =
     let second = c.before in
-    let first = second.before.before in
-    let a = first.before.before.before.args in
+    let first = second in
+    let a = first.args in
     let l = a.b.now in
     then_number a.at 2 (a.x ∷ a.y ∷ []) l a.v c.get8.result refl (omega arith) (search rules) (search rules)
-    (two_bytes a.at a.x a.y l (omega arith) first.if1.true second.if2.true)
+    (two_bytes a.at a.x a.y l (omega arith) first.if-b-at.true second.if-b-at-2.true)
     (c.get8.ensures.1 (omega arith))
 
-pub has-two-spec : {M : Type 1} → statement M
-has-two-spec = tie.close (tie.spec
+pub has_two_spec : {M : Type 1} → statement M
+has_two_spec = tie.close (tie.spec
     (λ c. search rules) (λ c. search rules) (λ c. search rules) (λ c. search rules) (λ c κs. search rules)
-    returns
-    (λ c. let first = c.before.before in
-    let a = first.before.before.before.args in
-    ends (number_says _ _) (byte_of a.at 10 a.b.now _ 1 (omega arith)) c.if2.false)
-    (λ c. let a = c.before.before.before.args in
-    ends (number_says _ _) (first_byte a.at 10 a.b.now _ (omega arith)) c.if1.false))
+    returns-then-b-at-2
+    (λ c. let first = c in
+    let a = first.args in
+    ends (number_says _ _) (byte_of a.at 10 a.b.now _ 1 (omega arith)) c.if-b-at-2.false)
+    (λ c. let a = c.args in
+    ends (number_says _ _) (first_byte a.at 10 a.b.now _ (omega arith)) c.if-b-at.false))

@@ -11,21 +11,21 @@ returns c =
     let flow = at_Target.before.before.before in
     let operands = flow.before.before in
     let kind = operands.before.before in
-    let name = kind.before in
-    let l = name.before.before.args.b.now in
+    let name = kind in
+    let l = name.args.b.now in
     λ t.
     record {
       mnemonic = (kind.kind_of.ensures ∙ ap kind_of name.name_in.ensures) t;
       count = byte_at 3 l;
-      ops = operands.operands-in.ensures t;
-      flow = flow.flow-by.ensures t;
-      target = (at_Target.target-by.ensures ∙ ap (target_by (byte_at 2 l)) at_Target.before.get8.ensures.0) t;
+      ops = operands.operands_in.ensures t;
+      flow = flow.flow_by.ensures t;
+      target = (at_Target.target_by.ensures ∙ ap (target_by (byte_at 2 l)) at_Target.get8.ensures.0) t;
       delay_slot = eqb (byte_at 2 l % 2) 1;
-      effect = c.effect-in.ensures t;
+      effect = c.effect_in.ensures t;
     }
 
-pub insn-in-spec : {M : Type 1} → statement M
-insn-in-spec = tie.close (tie.spec
+pub insn_in_spec : {M : Type 1} → statement M
+insn_in_spec = tie.close (tie.spec
     (λ c κs. search rules) (λ c κs. search rules) (λ c. search rules) (λ c κs. search rules) (λ c. search rules)
     (λ c κs. search rules) (λ c. search rules) (λ c κs. search rules) (λ c κs. search rules) (λ c. search rules)
     (λ c κs. search rules)

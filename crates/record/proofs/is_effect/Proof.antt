@@ -9,17 +9,17 @@ use Rattle.record.proofs.is_effect.Tie as tie
 
 returns : tie.Need-returns
 returns c =
-    let s = c.before.before.before.before.before in
+    let s = c in
     let p : Parts = effect_parts s.args.d.insn.effect in
-    let e = c.before.before.effect_parts.ensures in
-    let r = c.before.value_of.result in
-    let low = c.before.value_of.ensures ∙ ap (λ (q : Parts). value_of q % 2 ^ 64) e in
+    let e = c.effect_parts-p.ensures in
+    let r = c.value_of.result in
+    let low = c.value_of.ensures ∙ ap (λ (q : Parts). value_of q % 2 ^ 64) e in
     in_other_words
     (ap (λ (q : Parts). q.number ∷ q.first ∷ q.second ∷ q.size ∷ low_bytes 8 r) e
     ∙ ap (λ (m : List ℕ). p.number ∷ p.first ∷ p.second ∷ p.size ∷ m) (low8 r (value_of p) low))
-    c.has-four.ensures
+    c.has_four.ensures
 
-pub is-effect-spec : {M : Type 1} → statement M
-is-effect-spec = tie.close (tie.spec
+pub is_effect_spec : {M : Type 1} → statement M
+is_effect_spec = tie.close (tie.spec
     (λ c κs. search rules) (λ c κs. search rules) (λ c κs. search rules)
     returns)

@@ -12,15 +12,15 @@ returns c =
     let marks = value.before in
     let flow = marks.before in
     let parts = flow.before in
-    let s = parts.before.before.before in
+    let s = parts in
     let i = s.args.d.insn in
     let v : ℕ = value_of (target_parts i.target) in
-    let low = value.value_of.ensures ∙ ap (λ (q : Parts). value_of q % 2 ^ 64) parts.target_parts.ensures in
+    let low = value.value_of.ensures ∙ ap (λ (q : Parts). value_of q % 2 ^ 64) parts.target_parts-t.ensures in
     in_other_words
     (λ t. 0 ∷ flow.flow_number.ensures t ∷ marks.marks.ensures t ∷ i.count ∷ low8 value.value_of.result v low t)
-    c.has-four.ensures
+    c.has_four.ensures
 
-pub is-head-spec : {M : Type 1} → statement M
-is-head-spec = tie.close (tie.spec
+pub is_head_spec : {M : Type 1} → statement M
+is_head_spec = tie.close (tie.spec
     (λ c κs. search rules) (λ c κs. search rules) (λ c κs. search rules) (λ c κs. search rules) (λ c κs. search rules)
     returns)

@@ -12,17 +12,17 @@ returns : tie.Need-returns
 returns c =
     let value = c.before in
     let parts = value.before in
-    let s = parts.before.before in
+    let s = parts in
     let p : Parts = slot_of s.args.d.insn s.args.k in
-    let e = parts.slot.ensures in
+    let e = parts.slot-p.ensures in
     let r = value.value_of.result in
     let low = value.value_of.ensures ∙ ap (λ (q : Parts). value_of q % 2 ^ 64) e in
     in_other_words
     (ap (λ (q : Parts). q.number ∷ q.first ∷ low_bytes 8 r) e
     ∙ ap (λ (m : List ℕ). p.number ∷ p.first ∷ m) (low8 r (value_of p) low))
-    c.has-two.ensures
+    c.has_two.ensures
 
-pub is-operand-spec : {M : Type 1} → statement M
-is-operand-spec = tie.close (tie.spec
+pub is_operand_spec : {M : Type 1} → statement M
+is_operand_spec = tie.close (tie.spec
     (λ c. search rules) (λ c. search rules) (λ c κs. search rules) (λ c κs. search rules) (λ c κs. search rules)
     returns)

@@ -2,22 +2,22 @@ use Rattle.std.proofs.Common.{rules}
 use Rattle.record.proofs.marks.Statement.{statement}
 use Rattle.record.proofs.marks.Tie as tie
 
-returns : tie.Need-returns
-returns c = rw (c.if1.true, c.before.enum_told.given.1)
+returns-then-mark : tie.Need-returns-then-mark
+returns-then-mark c = rw (c.if-mark.true, c.in-None.is)
 
-returns-2 : tie.Need-returns-2
-returns-2 c = rw (c.if1.false, c.before.enum_told.given.1)
+returns-else-mark : tie.Need-returns-else-mark
+returns-else-mark c = rw (c.if-mark.false, c.in-None.is)
 
-returns-3 : tie.Need-returns-3
-returns-3 c = rw (c.if2.true, c.before.enum-told2.given.1)
+returns-then-mark-2 : tie.Need-returns-then-mark-2
+returns-then-mark-2 c = rw (c.if-mark-2.true, c.in-At.is)
 
-returns-4 : tie.Need-returns-4
-returns-4 c = rw (c.if2.false, c.before.enum-told2.given.1)
+returns-else-mark-2 : tie.Need-returns-else-mark-2
+returns-else-mark-2 c = rw (c.if-mark-2.false, c.in-At.is)
 
-pub marks-spec : {M : Type 1} → statement M
-marks-spec = tie.close (tie.spec
+pub marks_spec : {M : Type 1} → statement M
+marks_spec = tie.close (tie.spec
     (λ c. search rules) (λ c. search rules)
-    returns
-    returns-2
-    returns-3
-    returns-4)
+    returns-then-mark
+    returns-else-mark
+    returns-then-mark-2
+    returns-else-mark-2)

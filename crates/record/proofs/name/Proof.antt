@@ -9,11 +9,11 @@ returns : tie.Need-returns
 returns c =
     let put = c.before.before in
     let name = put.before.before.before in
-    let s = name.before.before.before in
+    let s = name in
     let k = s.args.d.insn.mnemonic in
     first_at 64 (name_bytes k) s.args.out.now (omega (arith, name_long k)) name.name_of.ensures put.put.ensures
 
-pub name-spec : {M : Type 1} → statement M
-name-spec = tie.close (tie.spec
+pub name_spec : {M : Type 1} → statement M
+name_spec = tie.close (tie.spec
     (λ c κs. search rules) (λ c. search rules) (λ c κs. search rules) (λ c. search rules)
     returns)

@@ -6,11 +6,11 @@ use Rattle.record.proofs.name_in.Tie as tie
 returns : tie.Need-returns
 returns c =
     let ninth = c.before.before.before.before.before.before.before.before in
-    let first = ninth.before.before.before.before.before.before.before.before in
+    let first = ninth in
     sym (bytes_at 15 64 first.args.b.now (omega arith))
 
-pub name-in-spec : {M : Type 1} → statement M
-name-in-spec = tie.close (tie.spec
+pub name_in_spec : {M : Type 1} → statement M
+name_in_spec = tie.close (tie.spec
     (λ c. search rules) (λ c. search rules) (λ c. search rules) (λ c. search rules) (λ c. search rules)
     (λ c. search rules) (λ c. search rules) (λ c. search rules) (λ c. search rules) (λ c. search rules)
     (λ c. search rules) (λ c. search rules) (λ c. search rules) (λ c. search rules) (λ c. search rules)

@@ -6,14 +6,14 @@ use Rattle.record.proofs.operand_in.Tie as tie
 
 returns : tie.Need-returns
 returns c =
-    let get = c.before in
-    let a = get.before.before.before.before.args in
+    let get = c in
+    let a = get.args in
     let l = a.b.now in
     ap operand
-    (c.op-by.ensures ∙ ap (op_by (byte_at a.at l) (byte_at (a.at + 1) l)) get.get8.ensures.0)
+    (c.op_by.ensures ∙ ap (op_by (byte_at a.at l) (byte_at (a.at + 1) l)) get.get8.ensures.0)
 
-pub operand-in-spec : {M : Type 1} → statement M
-operand-in-spec = tie.close (tie.spec
+pub operand_in_spec : {M : Type 1} → statement M
+operand_in_spec = tie.close (tie.spec
     (λ c. search rules) (λ c. search rules) (λ c. search rules) (λ c. search rules) (λ c κs. search rules)
     (λ c κs. search rules)
     returns)

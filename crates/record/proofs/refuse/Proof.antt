@@ -7,12 +7,12 @@ use Rattle.record.proofs.refuse.Tie as tie
 returns : tie.Need-returns
 returns c =
     let put = c.before.before in
-    let s = put.before.before.before.before in
+    let s = put in
     let d = s.args.out.now in
     let bytes : List ℕ = number_bytes s.args.n in
     first_at 0 bytes d (omega arith) refl put.put.ensures ∙ at_start bytes d
 
-pub refuse-spec : {M : Type 1} → statement M
-refuse-spec = tie.close (tie.spec
+pub refuse_spec : {M : Type 1} → statement M
+refuse_spec = tie.close (tie.spec
     (λ c. search rules) (λ c. search rules) (λ c κs. search rules) (λ c. search rules)
     returns)

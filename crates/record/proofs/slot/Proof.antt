@@ -2,14 +2,14 @@ use Rattle.std.proofs.Common.{◌∙◌, rules, le-ltb, lt-ltb}
 use Rattle.record.proofs.slot.Statement.{statement}
 use Rattle.record.proofs.slot.Tie as tie
 
+returns-then-k-i : tie.Need-returns-then-k-i
+returns-then-k-i c = c.op_parts.ensures ∙ rw (lt-ltb _ _ c.if-k-i.true)
+
 returns : tie.Need-returns
-returns c = c.op_parts.ensures ∙ rw (lt-ltb _ _ c.before.before.before.if1.true)
+returns c = rw (le-ltb _ _ c.if-k-i.false)
 
-returns-2 : tie.Need-returns-2
-returns-2 c = rw (le-ltb _ _ c.if1.false)
-
-pub slot-spec : {M : Type 1} → statement M
-slot-spec = tie.close (tie.spec
+pub slot_spec : {M : Type 1} → statement M
+slot_spec = tie.close (tie.spec
     (λ c. search rules) (λ c. search rules) (λ c. search rules) (λ c κs. search rules)
-    returns
-    returns-2)
+    returns-then-k-i
+    returns)

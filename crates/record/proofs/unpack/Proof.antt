@@ -8,34 +8,34 @@ use Rattle.record.proofs.Whole.{holds_record, not_record}
 use Rattle.record.proofs.unpack.Statement.{statement}
 use Rattle.record.proofs.unpack.Tie as tie
 
-returns : tie.Need-returns
-returns c = rw (lt-ltb _ _ c.before.if1.true) c.refused.ensures
+returns-then-b-lt-SIZE : tie.Need-returns-then-b-lt-SIZE
+returns-then-b-lt-SIZE c = rw (lt-ltb _ _ c.if-b-lt-SIZE.true) c.refused.ensures
 
-returns-2 : tie.Need-returns-2
-returns-2 c =
+returns-then-is_record : tie.Need-returns-then-is_record
+returns-then-is_record c =
     let is = c.before in
     let says = is.before in
-    let long = says.before in
-    let l = long.before.before.args.b.now in
-    let e = says.insn-in.ensures in
-    let h = subst (λ (i : Insn). Holds i l) e (is.is_record.ensures.0 c.if2.true) in
-    rw (le-ltb (length l) 80 long.if1.false, holds_record l h) (ap accepted_as e)
+    let long = says in
+    let l = long.args.b.now in
+    let e = says.insn_in.ensures in
+    let h = subst (λ (i : Insn). Holds i l) e (is.is_record.ensures.0 c.if-is_record.true) in
+    rw (le-ltb (length l) 80 long.if-b-lt-SIZE.false, holds_record l h) (ap accepted_as e)
 
-returns-3 : tie.Need-returns-3
-returns-3 c =
+returns-else-is_record : tie.Need-returns-else-is_record
+returns-else-is_record c =
     let not = c.before in
     let is = not.before in
     let says = is.before in
-    let long = says.before in
-    let l = long.before.before.args.b.now in
-    let held = subst (λ (i : Insn). Holds i l) (sym says.insn-in.ensures) in
-    let n : ¬ Holds (insn_in l) l = λ h. false≢true (sym not.if2.false ∙ is.is_record.ensures.1 (held h)) in
-    rw (le-ltb (length l) 80 long.if1.false, not_record l long.if1.false n) c.refused2.ensures
+    let long = says in
+    let l = long.args.b.now in
+    let held = subst (λ (i : Insn). Holds i l) (sym says.insn_in.ensures) in
+    let n : ¬ Holds (insn_in l) l = λ h. false≢true (sym not.if-is_record.false ∙ is.is_record.ensures.1 (held h)) in
+    rw (le-ltb (length l) 80 long.if-b-lt-SIZE.false, not_record l long.if-b-lt-SIZE.false n) c.refused-else-is_record.ensures
 
-pub unpack-spec : {M : Type 1} → statement M
-unpack-spec = tie.close (tie.spec
+pub unpack_spec : {M : Type 1} → statement M
+unpack_spec = tie.close (tie.spec
     (λ c κs. search rules)
-    returns
+    returns-then-b-lt-SIZE
     (λ c κs. search rules) (λ c κs. search rules) (λ c κs. search rules)
-    returns-2
-    returns-3)
+    returns-then-is_record
+    returns-else-is_record)
