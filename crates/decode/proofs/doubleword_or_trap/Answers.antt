@@ -1,0 +1,82 @@
+use Prim.Native.Nat.{ℕ}
+use mathlib.Core.Path.{◌≡◌, refl, sym, ◌∙◌, subst}
+use mathlib.Core.Bool.{Bool, true, false}
+use mathlib.Core.Logic.{◌⊎◌, inl, inr, ⊎_elim}
+use mathlib.Core.List.{List, [], ◌∷◌}
+use borrow.Author.Rules.{rules}
+use Rattle.word.specs.Word.{fields_of, op, rt, funct}
+use Rattle.reading.specs.Kind as kind
+use Rattle.classes.specs.Meaning.{meaning}
+use Rattle.forms.specs.declared.Shape.TheVariants.{RdRsRt}
+use Rattle.decode.specs.Private.Groups.{Is, Group, NoneOf, arithmetics, moves, shifts}
+use Rattle.decode.proofs.Facts.{◌≐◌, ◌is_none_of◌}
+use Rattle.decode.proofs.Arms.{row_by, number_by, taken, left_over, arm, arm_if, arm_else}
+use Rattle.decode.proofs.doubleword_or_trap.Goals as goal
+
+abbrev keys : List ℕ
+keys = 54 ∷ 52 ∷ 51 ∷ 50 ∷ 49 ∷ 48 ∷ 47 ∷ 46 ∷ 45 ∷ 44 ∷ []
+
+-- funct 45 without the flag, or with another rt
+daddu : {w : ℕ} (wide : Bool) → Group 0 w → fields_of w funct ≡ 45 → (wide ≡ false) ⊎ ¬ (fields_of w rt ≡ 0) →
+    Is (RdRsRt kind.daddu) w wide
+unfolding row_by meaning
+daddu wide o k (inl e) = arm o funct k refl (rw e (λ va. refl))
+daddu true o k (inr n) = arm_else o funct k refl rt refl n (λ va. refl)
+daddu false o k (inr n) = arm o funct k refl (λ va. refl)
+
+pub returns-in-44 : goal.returns-in-44
+unfolding row_by number_by meaning
+returns-in-44 c = arm c.requires.0 funct c.requires.1.0 c.in-44.is (λ va. refl)
+
+pub returns-then-bits64 : goal.returns-then-bits64
+unfolding row_by number_by meaning
+returns-then-bits64 c =
+    let s = c in
+    arm_if s.requires.0 funct s.requires.1.0 s.in-45.is rt c.rt.ensures c.if-rt-eq0.true
+    (rw c.if-bits64.true (λ va. refl))
+
+pub returns-else-rt-eq0 : goal.returns-else-rt-eq0
+unfolding row_by number_by meaning
+returns-else-rt-eq0 c =
+    let s = c in daddu _ s.requires.0 (s.requires.1.0 ∙ s.in-45.is)
+    (⊎_elim (λ p. inl p.1) (λ p. inr (λ q. p (c.rt.ensures ∙ q))) c.else-rt-eq0.either)
+
+pub returns-in-46 : goal.returns-in-46
+unfolding row_by number_by meaning
+returns-in-46 c = arm c.requires.0 funct c.requires.1.0 c.in-46.is (λ va. refl)
+
+pub returns-in-47 : goal.returns-in-47
+unfolding row_by number_by meaning
+returns-in-47 c = arm c.requires.0 funct c.requires.1.0 c.in-47.is (λ va. refl)
+
+pub returns-in-48 : goal.returns-in-48
+unfolding row_by number_by meaning
+returns-in-48 c = arm c.requires.0 funct c.requires.1.0 c.in-48.is (λ va. refl)
+
+pub returns-in-49 : goal.returns-in-49
+unfolding row_by number_by meaning
+returns-in-49 c = arm c.requires.0 funct c.requires.1.0 c.in-49.is (λ va. refl)
+
+pub returns-in-50 : goal.returns-in-50
+unfolding row_by number_by meaning
+returns-in-50 c = arm c.requires.0 funct c.requires.1.0 c.in-50.is (λ va. refl)
+
+pub returns-in-51 : goal.returns-in-51
+unfolding row_by number_by meaning
+returns-in-51 c = arm c.requires.0 funct c.requires.1.0 c.in-51.is (λ va. refl)
+
+pub returns-in-52 : goal.returns-in-52
+unfolding row_by number_by meaning
+returns-in-52 c = arm c.requires.0 funct c.requires.1.0 c.in-52.is (λ va. refl)
+
+pub returns-in-54 : goal.returns-in-54
+unfolding row_by number_by meaning
+returns-in-54 c = arm c.requires.0 funct c.requires.1.0 c.in-54.is (λ va. refl)
+
+pub returns-in_default : goal.returns-in_default
+unfolding row_by number_by meaning
+returns-in_default c =
+    left_over (op ≐ 0 ∷ funct is_none_of keys ∷ funct is_none_of arithmetics ∷ funct is_none_of moves ∷ funct is_none_of shifts ∷ [])
+    (c.requires.0, (subst (λ (k : ℕ). NoneOf k keys) (sym c.requires.1.0) c.in_default.in_default-own.rest, c.requires.1.1))
+    refl tt
+
