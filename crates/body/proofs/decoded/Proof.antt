@@ -5,25 +5,25 @@ use Rattle.body.proofs.Words.{past_last}
 use Rattle.body.proofs.decoded.Statement.{statement}
 use Rattle.body.proofs.decoded.Tie as tie
 
-returns : tie.Need-returns
-returns c =
-    let past = c.before in
-    let a = past.before.before.before.args in
+returns-then-count-n : tie.Need-returns-then-count-n
+returns-then-count-n c =
+    let past = c in
+    let a = past.args in
     c.refused.ensures
-    ∙ sym (past_last a.v a.body.now a.n (omega (arith, past.before.count.ensures, past.if1.true)))
+    ∙ sym (past_last a.v a.body.now a.n (omega (arith, past.count.ensures, past.if-count-n.true)))
 
-returns-2 : tie.Need-returns-2
+returns : tie.Need-returns
 unfolding decoded_at
-returns-2 c =
+returns c =
     let address = c.before in
-    let inside = address.before.before in
-    let a = inside.before.before.before.args in
+    let inside = address in
+    let a = inside.args in
     rw (address.address.ensures, tail_part (4 * a.n) a.body.now) at c.decode.ensures
 
-pub decoded-spec : {M : Type 1} → statement M
-decoded-spec = tie.close (tie.spec
+pub decoded_spec : {M : Type 1} → statement M
+decoded_spec = tie.close (tie.spec
     (λ c κs. search rules) (λ c κs. search rules)
-    returns
+    returns-then-count-n
     (λ c. search rules) (λ c. search rules) (λ c. search rules) (λ c. search rules) (λ c κs. search rules)
     (λ c κs. search rules)
-    returns-2)
+    returns)

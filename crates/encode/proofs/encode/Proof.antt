@@ -7,30 +7,30 @@ use Rattle.encode.proofs.encode.Statement.{statement}
 use Rattle.encode.proofs.encode.Tie as tie
 
 -- the candidate is refused
-returns : tie.Need-returns
-returns c =
-    refused _ _ _ _ (c.before.before.before.before.candidate.ensures _)
-    (λ e. c.before.if1.true (ap (λ (d : Decoded). d.number) (c.before.before.before.decode_word.ensures ∙ e)))
+returns-then-d-ne0 : tie.Need-returns-then-d-ne0
+returns-then-d-ne0 c =
+    refused _ _ _ _ (c.candidate-w.ensures _)
+    (λ e. c.if-d-ne0.true (ap (λ (d : Decoded). d.number) (c.decode_word-d.ensures ∙ e)))
     _ c.none.ensures.0 c.none.ensures.1
 
 -- its reading is another
-returns-2 : tie.Need-returns-2
-returns-2 c =
-    refused _ _ _ _ (c.before.before.before.before.before.before.before.candidate.ensures _)
-    (λ e. said_no c.before.before.same_insn.ensures c.before.if2.true (ap (λ (d : Decoded). d.insn) (c.before.before.before.before.before.before.decode_word.ensures ∙ e)))
-    _ c.none2.ensures.0 c.none2.ensures.1
+returns-then-not-same_insn : tie.Need-returns-then-not-same_insn
+returns-then-not-same_insn c =
+    refused _ _ _ _ (c.candidate-w.ensures _)
+    (λ e. said_no c.same_insn.ensures c.if-not-same_insn.true (ap (λ (d : Decoded). d.insn) (c.decode_word-d.ensures ∙ e)))
+    _ c.none-then-not-same_insn.ensures.0 c.none-then-not-same_insn.ensures.1
 
 -- it has the reading
-returns-3 : tie.Need-returns-3
-returns-3 c =
-    encoded _ _ _ _ (c.before.before.before.before.before.before.candidate.ensures _) (search rules)
-    (sym c.before.before.before.before.before.decode_word.ensures
-    ∙ accepted_as_lem _ _ c.before.before.before.if1.false (said_yes c.before.same_insn.ensures c.if2.false))
+returns : tie.Need-returns
+returns c =
+    encoded _ _ _ _ (c.candidate-w.ensures _) (search rules)
+    (sym c.decode_word-d.ensures
+    ∙ accepted_as_lem _ _ c.if-d-ne0.false (said_yes c.same_insn.ensures c.if-not-same_insn.false))
 
-pub encode-spec : {M : Type 1} → statement M
-encode-spec = tie.close (tie.spec
+pub encode_spec : {M : Type 1} → statement M
+encode_spec = tie.close (tie.spec
     (λ c κs. search rules) (λ c κs. search rules) (λ c κs. search rules)
-    returns
+    returns-then-d-ne0
     (λ c κs. search rules) (λ c κs. search rules)
-    returns-2
-    returns-3)
+    returns-then-not-same_insn
+    returns)

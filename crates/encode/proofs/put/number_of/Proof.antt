@@ -5,22 +5,22 @@ use Rattle.encode.proofs.put.number_of.Statement.{statement}
 use Rattle.encode.proofs.put.number_of.Tie as tie
 
 -- an i64 that a case holds is what is read back from its bits
-returns-3 : tie.Need-returns-3
-returns-3 c =
+returns-in-Imm : tie.Need-returns-in-Imm
+returns-in-Imm c =
     c.twos_complement.ensures
-    ∙ (ap modulo64 (to_z-of_z {w = w64} {z = c.before.before.o3.given.0.0} (search rules)) ∙ ap number_of (sym c.before.before.o3.given.1))
+    ∙ (ap modulo64 (to_z-of_z {w = w64} {z = c.in-Imm.z} (search rules)) ∙ ap number_of (sym c.in-Imm.is))
 
-returns-4 : tie.Need-returns-4
-returns-4 c =
-    c.twos-complement2.ensures
-    ∙ (ap modulo64 (to_z-of_z {w = w64} {z = c.before.before.o4.given.0.0} (search rules)) ∙ ap number_of (sym c.before.before.o4.given.1))
+returns-in-Mem : tie.Need-returns-in-Mem
+returns-in-Mem c =
+    c.twos_complement-in-Mem.ensures
+    ∙ (ap modulo64 (to_z-of_z {w = w64} {z = c.in-Mem.z} (search rules)) ∙ ap number_of (sym c.in-Mem.is))
 
-pub number-of-spec : {M : Type 1} → statement M
-number-of-spec = tie.close (tie.spec
+pub number_of_spec : {M : Type 1} → statement M
+number_of_spec = tie.close (tie.spec
     (λ c. search rules) (λ c. search rules) (λ c. search rules) (λ c. search rules) (λ c. search rules)
     (λ c κs. search rules) (λ c. search rules) (λ c κs. search rules) (λ c. search rules) (λ c. search rules)
     (λ c. search rules) (λ c. search rules) (λ c. search rules)
-    returns-3
-    returns-4
+    returns-in-Imm
+    returns-in-Mem
     (λ c. search rules)
     (λ c. search rules))

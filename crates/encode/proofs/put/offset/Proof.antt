@@ -11,11 +11,11 @@ returns : tie.Need-returns
 unfolding branch_back
 returns c = (
   ap (λ (n : ℕ). n / 4 % 2 ^ 16)
-      (ahead c.before.number_of.result c.before.before.wrapping-add-u64.result c.wrapping-sub-u64.result (omega arith) (omega arith) (omega arith)
-      c.wrapping-sub-u64.ensures
-      ∙ ap₂ (λ (a b : ℕ). (a + (2 ^ 64 - b)) % 2 ^ 64) c.before.number_of.ensures c.before.before.wrapping-add-u64.ensures),
+      (ahead c.number_of.result c.wrapping_add_u64-next.result c.wrapping_sub_u64-ahead.result (omega arith) (omega arith) (omega arith)
+      c.wrapping_sub_u64-ahead.ensures
+      ∙ ap₂ (λ (a b : ℕ). (a + (2 ^ 64 - b)) % 2 ^ 64) c.number_of.ensures c.wrapping_add_u64-next.ensures),
   omega arith,
 )
 
-pub offset-spec : {M : Type 1} → statement M
-offset-spec = tie.close (tie.spec (λ c κs. search rules) (λ c κs. search rules) (λ c κs. search rules) (λ c. search rules) returns)
+pub offset_spec : {M : Type 1} → statement M
+offset_spec = tie.close (tie.spec (λ c κs. search rules) (λ c κs. search rules) (λ c κs. search rules) (λ c. search rules) returns)

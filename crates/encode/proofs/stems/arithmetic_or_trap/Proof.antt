@@ -7,17 +7,17 @@ use Rattle.encode.proofs.Arms.{plain_form, serves, suited, arm, outside}
 use Rattle.encode.proofs.stems.arithmetic_or_trap.Statement.{statement}
 use Rattle.encode.proofs.stems.arithmetic_or_trap.Tie as tie
 
-pub arithmetic-or-trap-spec : {M : Type 1} → statement M
+pub arithmetic_or_trap_spec : {M : Type 1} → statement M
 unfolding suited serves plain_form first least word table common by_width
-arithmetic-or-trap-spec = tie.close (tie.spec
-    (λ c. arm c.match.keys1 tt) (λ c. arm c.match.keys2 tt) (λ c. arm c.match.keys3 tt)
-    (λ c. arm c.match.keys4 tt) (λ c. arm c.match.keys5 tt) (λ c. arm c.match.keys6 tt)
-    (λ c. arm c.match.keys7 tt) (λ c. arm c.match.keys8 tt) (λ c. arm c.match.keys9 tt)
-    (λ c. arm c.match.keys10 tt) (λ c. arm c.match.keys11 tt) (λ c. arm c.match.keys12 tt)
-    (λ c. arm c.match.keys13 tt) (λ c. arm c.match.keys14 tt) (λ c. arm c.match.keys15 tt)
-    (λ c. arm c.match.keys16 tt) (λ c. arm c.match.keys17 tt) (λ c. arm c.match.keys18 tt)
-    (λ c. arm c.match.keys19 tt) (λ c. arm c.match.keys20 tt) (λ c. arm c.match.keys21 tt)
-    (λ c. arm c.match.keys22 tt) (λ c. arm c.match.keys23 tt) (λ c. arm c.match.keys24 tt)
-    (λ c. arm c.match.keys25 tt) (λ c. arm c.match.keys26 tt) (λ c. arm c.match.keys27 tt)
-    (λ c. arm c.match.keys28 tt) (λ c. arm c.match.keys29 tt)
-    (λ c. absurd (outside _ kind.add 29 c.before.requires.0 (omega (arith, c.before.requires.1)) c.match.rest)))
+arithmetic_or_trap_spec = tie.close (tie.spec
+    (λ c. arm c.in-31.is tt) (λ c. arm c.in-32.is tt) (λ c. arm c.in-33.is tt)
+    (λ c. arm c.in-34.is tt) (λ c. arm c.in-35.is tt) (λ c. arm c.in-36.is tt)
+    (λ c. arm c.in-37.is tt) (λ c. arm c.in-38.is tt) (λ c. arm c.in-39.is tt)
+    (λ c. arm c.in-40.is tt) (λ c. arm c.in-41.is tt) (λ c. arm c.in-42.is tt)
+    (λ c. arm c.in-43.is tt) (λ c. arm c.in-44.is tt) (λ c. arm c.in-45.is tt)
+    (λ c. arm c.in-46.is tt) (λ c. arm c.in-47.is tt) (λ c. arm c.in-48.is tt)
+    (λ c. arm c.in-49.is tt) (λ c. arm c.in-50.is tt) (λ c. arm c.in-51.is tt)
+    (λ c. arm c.in-52.is tt) (λ c. arm c.in-53.is tt) (λ c. arm c.in-54.is tt)
+    (λ c. arm c.in-55.is tt) (λ c. arm c.in-56.is tt) (λ c. arm c.in-57.is tt)
+    (λ c. arm c.in-58.is tt) (λ c. arm c.in-59.is tt)
+    (λ c. absurd (outside _ kind.add 29 c.requires.0 (omega (arith, c.requires.1)) c.in_default.in_default-own.rest)))

@@ -7,16 +7,16 @@ use Rattle.encode.proofs.Arms.{plain_form, serves, suited, arm, outside}
 use Rattle.encode.proofs.stems.branch_or_immediate.Statement.{statement}
 use Rattle.encode.proofs.stems.branch_or_immediate.Tie as tie
 
-pub branch-or-immediate-spec : {M : Type 1} → statement M
+pub branch_or_immediate_spec : {M : Type 1} → statement M
 unfolding suited serves plain_form first least word table common by_width
-branch-or-immediate-spec = tie.close (tie.spec
-    (λ c. arm c.match.keys1 tt) (λ c. arm c.match.keys2 tt) (λ c. arm c.match.keys3 tt)
-    (λ c. arm c.match.keys4 tt) (λ c. arm c.match.keys5 tt) (λ c. arm c.match.keys6 tt)
-    (λ c. arm c.match.keys7 tt) (λ c. arm c.match.keys8 tt) (λ c. arm c.match.keys9 tt)
-    (λ c. arm c.match.keys10 tt) (λ c. arm c.match.keys11 tt) (λ c. arm c.match.keys12 tt)
-    (λ c. arm c.match.keys13 tt) (λ c. arm c.match.keys14 tt) (λ c. arm c.match.keys15 tt)
-    (λ c. arm c.match.keys16 tt) (λ c. arm c.match.keys17 tt) (λ c. arm c.match.keys18 tt)
-    (λ c. arm c.match.keys19 tt) (λ c. arm c.match.keys20 tt) (λ c. arm c.match.keys21 tt)
-    (λ c. arm c.match.keys22 tt) (λ c. arm c.match.keys23 tt) (λ c. arm c.match.keys24 tt)
-    (λ c. arm c.match.keys25 tt)
-    (λ c. absurd (outside _ kind.bltz 25 c.before.requires.0 (omega (arith, c.before.requires.1)) c.match.rest)))
+branch_or_immediate_spec = tie.close (tie.spec
+    (λ c. arm c.in-60.is tt) (λ c. arm c.in-61.is tt) (λ c. arm c.in-62.is tt)
+    (λ c. arm c.in-63.is tt) (λ c. arm c.in-64.is tt) (λ c. arm c.in-65.is tt)
+    (λ c. arm c.in-66.is tt) (λ c. arm c.in-67.is tt) (λ c. arm c.in-68.is tt)
+    (λ c. arm c.in-69.is tt) (λ c. arm c.in-70.is tt) (λ c. arm c.in-71.is tt)
+    (λ c. arm c.in-72.is tt) (λ c. arm c.in-73.is tt) (λ c. arm c.in-74.is tt)
+    (λ c. arm c.in-75.is tt) (λ c. arm c.in-76.is tt) (λ c. arm c.in-77.is tt)
+    (λ c. arm c.in-78.is tt) (λ c. arm c.in-79.is tt) (λ c. arm c.in-80.is tt)
+    (λ c. arm c.in-81.is tt) (λ c. arm c.in-82.is tt) (λ c. arm c.in-83.is tt)
+    (λ c. arm c.in-84.is tt)
+    (λ c. absurd (outside _ kind.bltz 25 c.requires.0 (omega (arith, c.requires.1)) c.in_default.in_default-own.rest)))

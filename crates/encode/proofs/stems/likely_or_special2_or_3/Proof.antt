@@ -7,15 +7,15 @@ use Rattle.encode.proofs.Arms.{plain_form, serves, suited, arm, outside}
 use Rattle.encode.proofs.stems.likely_or_special2_or_3.Statement.{statement}
 use Rattle.encode.proofs.stems.likely_or_special2_or_3.Tie as tie
 
-pub likely-or-special2-or-3-spec : {M : Type 1} → statement M
+pub likely_or_special2_or_3_spec : {M : Type 1} → statement M
 unfolding suited serves plain_form first least word table common by_width
-likely-or-special2-or-3-spec = tie.close (tie.spec
-    (λ c. arm c.match.keys1 tt) (λ c. arm c.match.keys2 tt) (λ c. arm c.match.keys3 tt)
-    (λ c. arm c.match.keys4 tt) (λ c. arm c.match.keys5 tt) (λ c. arm c.match.keys6 tt)
-    (λ c. arm c.match.keys7 tt) (λ c. arm c.match.keys8 tt) (λ c. arm c.match.keys9 tt)
-    (λ c. arm c.match.keys10 tt) (λ c. arm c.match.keys11 tt) (λ c. arm c.match.keys12 tt)
-    (λ c. arm c.match.keys13 tt) (λ c. arm c.match.keys14 tt) (λ c. arm c.match.keys15 tt)
-    (λ c. arm c.match.keys16 tt) (λ c. arm c.match.keys17 tt) (λ c. arm c.match.keys18 tt)
-    (λ c. arm c.match.keys19 tt) (λ c. arm c.match.keys20 tt) (λ c. arm c.match.keys21 tt)
-    (λ c. arm c.match.keys22 tt)
-    (λ c. absurd (outside _ kind.beqzl 22 c.before.requires.0 (omega (arith, c.before.requires.1)) c.match.rest)))
+likely_or_special2_or_3_spec = tie.close (tie.spec
+    (λ c. arm c.in-163.is tt) (λ c. arm c.in-164.is tt) (λ c. arm c.in-165.is tt)
+    (λ c. arm c.in-166.is tt) (λ c. arm c.in-167.is tt) (λ c. arm c.in-168.is tt)
+    (λ c. arm c.in-169.is tt) (λ c. arm c.in-170.is tt) (λ c. arm c.in-171.is tt)
+    (λ c. arm c.in-172.is tt) (λ c. arm c.in-173.is tt) (λ c. arm c.in-174.is tt)
+    (λ c. arm c.in-175.is tt) (λ c. arm c.in-176.is tt) (λ c. arm c.in-177.is tt)
+    (λ c. arm c.in-178.is tt) (λ c. arm c.in-179.is tt) (λ c. arm c.in-180.is tt)
+    (λ c. arm c.in-181.is tt) (λ c. arm c.in-182.is tt) (λ c. arm c.in-183.is tt)
+    (λ c. arm c.in-184.is tt)
+    (λ c. absurd (outside _ kind.beqzl 22 c.requires.0 (omega (arith, c.requires.1)) c.in_default.in_default-own.rest)))

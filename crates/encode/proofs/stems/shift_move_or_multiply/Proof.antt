@@ -7,18 +7,18 @@ use Rattle.encode.proofs.Arms.{plain_form, serves, suited, arm, outside}
 use Rattle.encode.proofs.stems.shift_move_or_multiply.Statement.{statement}
 use Rattle.encode.proofs.stems.shift_move_or_multiply.Tie as tie
 
-pub shift-move-or-multiply-spec : {M : Type 1} → statement M
+pub shift_move_or_multiply_spec : {M : Type 1} → statement M
 unfolding suited serves plain_form first least word table common by_width
-shift-move-or-multiply-spec = tie.close (tie.spec
-    (λ c. arm c.match.keys1 tt) (λ c. arm c.match.keys2 tt) (λ c. arm c.match.keys3 tt)
-    (λ c. arm c.match.keys4 tt) (λ c. arm c.match.keys5 tt) (λ c. arm c.match.keys6 tt)
-    (λ c. arm c.match.keys7 tt) (λ c. arm c.match.keys8 tt) (λ c. arm c.match.keys9 tt)
-    (λ c. arm c.match.keys10 tt) (λ c. arm c.match.keys11 tt) (λ c. arm c.match.keys12 tt)
-    (λ c. arm c.match.keys13 tt) (λ c. arm c.match.keys14 tt) (λ c. arm c.match.keys15 tt)
-    (λ c. arm c.match.keys16 tt) (λ c. arm c.match.keys17 tt) (λ c. arm c.match.keys18 tt)
-    (λ c. arm c.match.keys19 tt) (λ c. arm c.match.keys20 tt) (λ c. arm c.match.keys21 tt)
-    (λ c. arm c.match.keys22 tt) (λ c. arm c.match.keys23 tt) (λ c. arm c.match.keys24 tt)
-    (λ c. arm c.match.keys25 tt) (λ c. arm c.match.keys26 tt) (λ c. arm c.match.keys27 tt)
-    (λ c. arm c.match.keys28 tt) (λ c. arm c.match.keys29 tt) (λ c. arm c.match.keys30 tt)
-    (λ c. arm c.match.keys31 tt)
-    (λ c. absurd (outside _ kind.nop 31 c.before.requires.0 (omega (arith, c.before.requires.1)) c.match.rest)))
+shift_move_or_multiply_spec = tie.close (tie.spec
+    (λ c. arm c.in-0.is tt) (λ c. arm c.in-1.is tt) (λ c. arm c.in-2.is tt)
+    (λ c. arm c.in-3.is tt) (λ c. arm c.in-4.is tt) (λ c. arm c.in-5.is tt)
+    (λ c. arm c.in-6.is tt) (λ c. arm c.in-7.is tt) (λ c. arm c.in-8.is tt)
+    (λ c. arm c.in-9.is tt) (λ c. arm c.in-10.is tt) (λ c. arm c.in-11.is tt)
+    (λ c. arm c.in-12.is tt) (λ c. arm c.in-13.is tt) (λ c. arm c.in-14.is tt)
+    (λ c. arm c.in-15.is tt) (λ c. arm c.in-16.is tt) (λ c. arm c.in-17.is tt)
+    (λ c. arm c.in-18.is tt) (λ c. arm c.in-19.is tt) (λ c. arm c.in-20.is tt)
+    (λ c. arm c.in-21.is tt) (λ c. arm c.in-22.is tt) (λ c. arm c.in-23.is tt)
+    (λ c. arm c.in-24.is tt) (λ c. arm c.in-25.is tt) (λ c. arm c.in-26.is tt)
+    (λ c. arm c.in-27.is tt) (λ c. arm c.in-28.is tt) (λ c. arm c.in-29.is tt)
+    (λ c. arm c.in-30.is tt)
+    (λ c. absurd (outside _ kind.nop 31 c.requires.0 (omega (arith, c.requires.1)) c.in_default.in_default-own.rest)))

@@ -7,18 +7,18 @@ use Rattle.encode.proofs.Arms.{plain_form, serves, suited, arm, outside}
 use Rattle.encode.proofs.stems.single_or_double.Statement.{statement}
 use Rattle.encode.proofs.stems.single_or_double.Tie as tie
 
-pub single-or-double-spec : {M : Type 1} → statement M
+pub single_or_double_spec : {M : Type 1} → statement M
 unfolding suited serves plain_form first least word table common by_width
-single-or-double-spec = tie.close (tie.spec
-    (λ c. arm c.match.keys1 tt) (λ c. arm c.match.keys2 tt) (λ c. arm c.match.keys3 tt)
-    (λ c. arm c.match.keys4 tt) (λ c. arm c.match.keys5 tt) (λ c. arm c.match.keys6 tt)
-    (λ c. arm c.match.keys7 tt) (λ c. arm c.match.keys8 tt) (λ c. arm c.match.keys9 tt)
-    (λ c. arm c.match.keys10 tt) (λ c. arm c.match.keys11 tt) (λ c. arm c.match.keys12 tt)
-    (λ c. arm c.match.keys13 tt) (λ c. arm c.match.keys14 tt) (λ c. arm c.match.keys15 tt)
-    (λ c. arm c.match.keys16 tt) (λ c. arm c.match.keys17 tt) (λ c. arm c.match.keys18 tt)
-    (λ c. arm c.match.keys19 tt) (λ c. arm c.match.keys20 tt) (λ c. arm c.match.keys21 tt)
-    (λ c. arm c.match.keys22 tt) (λ c. arm c.match.keys23 tt) (λ c. arm c.match.keys24 tt)
-    (λ c. arm c.match.keys25 tt) (λ c. arm c.match.keys26 tt) (λ c. arm c.match.keys27 tt)
-    (λ c. arm c.match.keys28 tt) (λ c. arm c.match.keys29 tt) (λ c. arm c.match.keys30 tt)
-    (λ c. arm c.match.keys31 tt) (λ c. arm c.match.keys32 tt)
-    (λ c. absurd (outside _ kind.add_s 32 c.before.requires.0 (omega (arith, c.before.requires.1)) c.match.rest)))
+single_or_double_spec = tie.close (tie.spec
+    (λ c. arm c.in-99.is tt) (λ c. arm c.in-100.is tt) (λ c. arm c.in-101.is tt)
+    (λ c. arm c.in-102.is tt) (λ c. arm c.in-103.is tt) (λ c. arm c.in-104.is tt)
+    (λ c. arm c.in-105.is tt) (λ c. arm c.in-106.is tt) (λ c. arm c.in-107.is tt)
+    (λ c. arm c.in-108.is tt) (λ c. arm c.in-109.is tt) (λ c. arm c.in-110.is tt)
+    (λ c. arm c.in-111.is tt) (λ c. arm c.in-112.is tt) (λ c. arm c.in-113.is tt)
+    (λ c. arm c.in-114.is tt) (λ c. arm c.in-115.is tt) (λ c. arm c.in-116.is tt)
+    (λ c. arm c.in-117.is tt) (λ c. arm c.in-118.is tt) (λ c. arm c.in-119.is tt)
+    (λ c. arm c.in-120.is tt) (λ c. arm c.in-121.is tt) (λ c. arm c.in-122.is tt)
+    (λ c. arm c.in-123.is tt) (λ c. arm c.in-124.is tt) (λ c. arm c.in-125.is tt)
+    (λ c. arm c.in-126.is tt) (λ c. arm c.in-127.is tt) (λ c. arm c.in-128.is tt)
+    (λ c. arm c.in-129.is tt) (λ c. arm c.in-130.is tt)
+    (λ c. absurd (outside _ kind.add_s 32 c.requires.0 (omega (arith, c.requires.1)) c.in_default.in_default-own.rest)))

@@ -7,18 +7,18 @@ use Rattle.encode.proofs.Arms.{plain_form, serves, suited, arm, outside}
 use Rattle.encode.proofs.stems.word_or_long.Statement.{statement}
 use Rattle.encode.proofs.stems.word_or_long.Tie as tie
 
-pub word-or-long-spec : {M : Type 1} → statement M
+pub word_or_long_spec : {M : Type 1} → statement M
 unfolding suited serves plain_form first least word table common by_width
-word-or-long-spec = tie.close (tie.spec
-    (λ c. arm c.match.keys1 tt) (λ c. arm c.match.keys2 tt) (λ c. arm c.match.keys3 tt)
-    (λ c. arm c.match.keys4 tt) (λ c. arm c.match.keys5 tt) (λ c. arm c.match.keys6 tt)
-    (λ c. arm c.match.keys7 tt) (λ c. arm c.match.keys8 tt) (λ c. arm c.match.keys9 tt)
-    (λ c. arm c.match.keys10 tt) (λ c. arm c.match.keys11 tt) (λ c. arm c.match.keys12 tt)
-    (λ c. arm c.match.keys13 tt) (λ c. arm c.match.keys14 tt) (λ c. arm c.match.keys15 tt)
-    (λ c. arm c.match.keys16 tt) (λ c. arm c.match.keys17 tt) (λ c. arm c.match.keys18 tt)
-    (λ c. arm c.match.keys19 tt) (λ c. arm c.match.keys20 tt) (λ c. arm c.match.keys21 tt)
-    (λ c. arm c.match.keys22 tt) (λ c. arm c.match.keys23 tt) (λ c. arm c.match.keys24 tt)
-    (λ c. arm c.match.keys25 tt) (λ c. arm c.match.keys26 tt) (λ c. arm c.match.keys27 tt)
-    (λ c. arm c.match.keys28 tt) (λ c. arm c.match.keys29 tt) (λ c. arm c.match.keys30 tt)
-    (λ c. arm c.match.keys31 tt) (λ c. arm c.match.keys32 tt)
-    (λ c. absurd (outside _ kind.add_w 32 c.before.requires.0 (omega (arith, c.before.requires.1)) c.match.rest)))
+word_or_long_spec = tie.close (tie.spec
+    (λ c. arm c.in-131.is tt) (λ c. arm c.in-132.is tt) (λ c. arm c.in-133.is tt)
+    (λ c. arm c.in-134.is tt) (λ c. arm c.in-135.is tt) (λ c. arm c.in-136.is tt)
+    (λ c. arm c.in-137.is tt) (λ c. arm c.in-138.is tt) (λ c. arm c.in-139.is tt)
+    (λ c. arm c.in-140.is tt) (λ c. arm c.in-141.is tt) (λ c. arm c.in-142.is tt)
+    (λ c. arm c.in-143.is tt) (λ c. arm c.in-144.is tt) (λ c. arm c.in-145.is tt)
+    (λ c. arm c.in-146.is tt) (λ c. arm c.in-147.is tt) (λ c. arm c.in-148.is tt)
+    (λ c. arm c.in-149.is tt) (λ c. arm c.in-150.is tt) (λ c. arm c.in-151.is tt)
+    (λ c. arm c.in-152.is tt) (λ c. arm c.in-153.is tt) (λ c. arm c.in-154.is tt)
+    (λ c. arm c.in-155.is tt) (λ c. arm c.in-156.is tt) (λ c. arm c.in-157.is tt)
+    (λ c. arm c.in-158.is tt) (λ c. arm c.in-159.is tt) (λ c. arm c.in-160.is tt)
+    (λ c. arm c.in-161.is tt) (λ c. arm c.in-162.is tt)
+    (λ c. absurd (outside _ kind.add_w 32 c.requires.0 (omega (arith, c.requires.1)) c.in_default.in_default-own.rest)))
