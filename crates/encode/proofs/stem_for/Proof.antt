@@ -9,5 +9,5 @@ stem_for_spec = tie.close (tie.spec
     (λ c κs. search rules)
     (λ c. not_li _ _ _ c.if-m-ne-LI.true c.stem_of.ensures)
     (λ c κs. search rules) (λ c κs. search rules) (λ c κs. search rules)
-    (λ c. li_signed _ _ _ c.if-m-ne-LI.false (ap in_signed (sym (to_z-of_z {w = w64} (record { sfits = c.value_of.type_inv }) ∙ c.value_of.ensures)) ∙ (sym c.is_Signed.ensures ∙ c.if-is_signed.true)) c.stem_of-then-is_signed.ensures)
-    (λ c. li_unsigned _ _ c.if-m-ne-LI.false (ap in_signed (sym (to_z-of_z {w = w64} (record { sfits = c.value_of.type_inv }) ∙ c.value_of.ensures)) ∙ (sym c.is_Signed.ensures ∙ c.if-is_signed.false))))
+    (λ c. li_signed _ _ _ c.if-m-ne-LI.false (ap in_signed (sym (to_z-of_z {w = w64} (record { sfits = c.value_of.type_inv }) ∙ c.value_of.ensures)) ∙ (sym c.is_signed.ensures ∙ c.if-is_signed.true)) c.stem_of-then-is_signed.ensures)
+    (λ c. li_unsigned _ _ c.if-m-ne-LI.false (ap in_signed (sym (to_z-of_z {w = w64} (record { sfits = c.value_of.type_inv }) ∙ c.value_of.ensures)) ∙ (sym c.is_signed.ensures ∙ c.if-is_signed.false))))
