@@ -9,72 +9,72 @@ use Rattle.blocks.proofs.Blocks.{Left, start, ran_out, inside, one_word_more, st
 use Rattle.blocks.proofs.block.Statement.{statement}
 use Rattle.blocks.proofs.block.Tie as tie
 
-abbrev invariant-loop : tie.invariant-loop
-invariant-loop body v n words k₀ k = Left v body n k
+abbrev invariant-loop-k : tie.invariant-loop-k
+invariant-loop-k body v n words k₀ k = Left v body n k
 
-abbrev decreases-loop : tie.decreases-loop
-decreases-loop body v n words k₀ k = words - k
+abbrev decreases-loop-k : tie.decreases-loop-k
+decreases-loop-k body v n words k₀ k = words - k
 
-returns : tie.Need-returns invariant-loop decreases-loop
+returns-then-words-n : tie.Need-returns-then-words-n invariant-loop-k decreases-loop-k
 unfolding block_of
-returns c =
-    let past = c.before in
-    let a = past.before.before.before.args in
-    let h : words_in a.body.now ≤ a.n = omega (arith, past.before.count.ensures, past.if1.true) in
-    rw (le-ltb a.n (words_in a.body.now) h) c.Block-of.ensures
+returns-then-words-n c =
+    let past = c in
+    let a = past.args in
+    let h : words_in a.body.now ≤ a.n = omega (arith, past.count-words.ensures, past.if-words-n.true) in
+    rw (le-ltb a.n (words_in a.body.now) h) c.block_of.ensures
 
-loop-holds : tie.Need-loop-init invariant-loop decreases-loop
-loop-holds c =
-    let a = c.before.before.before.args in
-    start a.v a.body.now a.n (omega (arith, c.before.count.ensures, c.if1.false))
+loop-k-init : tie.Need-loop-k-init invariant-loop-k decreases-loop-k
+loop-k-init c =
+    let a = c.args in
+    start a.v a.body.now a.n (omega (arith, c.count-words.ensures, c.if-words-n.false))
 
 -- where word k is looked at: there is one
-there : (c : tie.After-step invariant-loop decreases-loop) →
-    let loop = c.before.before in
-    loop.loop.k < words_in loop.before.before.before.before.args.body.now
+there : (c : tie.After-step-t invariant-loop-k decreases-loop-k) →
+    let loop = c in
+    loop.loop-k.k < words_in loop.args.body.now
 there c =
-    let loop = c.before.before in
-    omega (arith, loop.before.before.count.ensures, c.before.if2.false)
+    let loop = c in
+    omega (arith, loop.count-words.ensures, c.if-words-k.false)
 
-add-k : tie.Need-overflow-add-k invariant-loop decreases-loop
-add-k c =
+overflow_add-k : tie.Need-overflow_add-k invariant-loop-k decreases-loop-k
+overflow_add-k c =
     let t = c.before in
-    let loop = t.before.before in
-    omega (arith, inside loop.loop.invariant (there t) t.step.ensures, loop.before.before.count.ensures)
+    let loop = t in
+    omega (arith, inside loop.loop-k.invariant (there t) t.step-t.ensures, loop.count-words.ensures)
 
-loop-less : tie.Need-loop-smaller invariant-loop decreases-loop
-loop-less c =
+loop-k-smaller : tie.Need-loop-k-smaller invariant-loop-k decreases-loop-k
+loop-k-smaller c =
     let t = c.before.before.before in
-    let loop = t.before.before in
-    omega (arith, one_word_more loop.loop.invariant (there t) t.step.ensures c.if3.false, t.before.if2.false)
+    let loop = t in
+    omega (arith, one_word_more loop.loop-k.invariant (there t) t.step-t.ensures c.if-t-ne-GOES_ON.false, t.if-words-k.false)
 
-loop-again : tie.Need-loop-preserved invariant-loop decreases-loop
-loop-again c =
+loop-k-preserved : tie.Need-loop-k-preserved invariant-loop-k decreases-loop-k
+loop-k-preserved c =
     let t = c.before.before.before in
-    went t.before.before.loop.invariant (there t) t.step.ensures c.if3.false
+    went t.loop-k.invariant (there t) t.step-t.ensures c.if-t-ne-GOES_ON.false
 
-returns-2 : tie.Need-returns-2 invariant-loop decreases-loop
-returns-2 c =
-    let loop = c.before.before in
-    c.block-of2.ensures
-    ∙ ran_out loop.loop.invariant (omega (arith, loop.before.before.count.ensures, c.before.if2.true))
+returns-then-words-k : tie.Need-returns-then-words-k invariant-loop-k decreases-loop-k
+returns-then-words-k c =
+    let loop = c in
+    c.block_of-then-words-k.ensures
+    ∙ ran_out loop.loop-k.invariant (omega (arith, loop.count-words.ensures, c.if-words-k.true))
 
-returns-3 : tie.Need-returns-3 invariant-loop decreases-loop
-returns-3 c =
+returns-then-t-ne-GOES_ON : tie.Need-returns-then-t-ne-GOES_ON invariant-loop-k decreases-loop-k
+returns-then-t-ne-GOES_ON c =
     let t = c.before.before.before.before in
-    c.block-of3.ensures ∙ stopped t.before.before.loop.invariant (there t) t.step.ensures c.before.if3.true
+    c.block_of-then-t-ne-GOES_ON.ensures ∙ stopped t.loop-k.invariant (there t) t.step-t.ensures c.if-t-ne-GOES_ON.true
 
 pub block_spec : {M : Type 1} → statement M
 block_spec = tie.close (tie.spec
-    invariant-loop
-    decreases-loop
+    invariant-loop-k
+    decreases-loop-k
     (λ c κs. search rules) (λ c κs. search rules)
-    returns
-    loop-holds
+    returns-then-words-n
+    loop-k-init
     (λ c. search rules) (λ c κs. search rules) (λ c κs. search rules)
-    add-k
+    overflow_add-k
     (λ c. search rules) (λ c κs. search rules)
-    loop-less
-    loop-again
-    returns-2
-    returns-3)
+    loop-k-smaller
+    loop-k-preserved
+    returns-then-words-k
+    returns-then-t-ne-GOES_ON)

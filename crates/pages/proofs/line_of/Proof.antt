@@ -12,18 +12,18 @@ use Rattle.pages.proofs.Answers.{answers, answer_most}
 use Rattle.pages.proofs.line_of.Statement.{statement}
 use Rattle.pages.proofs.line_of.Tie as tie
 
-put-text-requires : tie.Need-put-text-requires
-put-text-requires c κs =
+put_text-end-requires : tie.Need-put_text-end-requires
+put_text-end-requires c κs =
     let word = c.before in
-    let a = word.before.before.before.before.before.before.before.args in
+    let a = word.args in
     (rw word.decoded.ensures (answers within a.v a.body.now a.n), search rules)
 
 -- the text has no more bytes than the longest line
-short : (c : tie.After-put-text) → c.put-text.result ≤ longest
+short : (c : tie.After-put_text-end) → c.put_text-end.result ≤ longest
 short c =
     let word = c.before.before in
-    let a = word.before.before.before.before.before.before.before.args in
-    let text = c.put-text.ensures.0 ∙ ap (λ (d : Decoded). length (answer_text plain d)) word.decoded.ensures in
+    let a = word.args in
+    let text = c.put_text-end.ensures.0 ∙ ap (λ (d : Decoded). length (answer_text plain d)) word.decoded.ensures in
     omega (arith, text, answer_most within a.v a.body.now a.n)
 
 returns : tie.Need-returns
@@ -32,17 +32,17 @@ returns c =
     let text = newline.before.before.before.before in
     let word = text.before.before in
     let columns = word.before.before.before in
-    let s = columns.before.before.before.before in
+    let s = columns in
     let a = s.args in
     let d = word.decoded.ensures in
     line_written plain a.v a.body.now a.n a.out.now s.requires.1
-    (answer_most within a.v a.body.now a.n) columns.put-columns.ensures
-    (rw d at text.put-text.ensures.0) (rw d at text.put-text.ensures.1) newline.put1.ensures
+    (answer_most within a.v a.body.now a.n) columns.put_columns.ensures
+    (rw d at text.put_text-end.ensures.0) (rw d at text.put_text-end.ensures.1) newline.put1.ensures
 
-pub line-of-spec : {M : Type 1} → statement M
-line-of-spec = tie.close (tie.spec
+pub line_of_spec : {M : Type 1} → statement M
+line_of_spec = tie.close (tie.spec
     (λ c κs. search rules) (λ c κs. search rules) (λ c. search rules) (λ c. search rules) (λ c. search rules)
-    put-text-requires
+    put_text-end-requires
     (λ c. omega (arith, short c.before.before))
     (λ c κs. search rules)
     (λ c. omega (arith, short c.before.before.before.before.before.before))

@@ -13,16 +13,16 @@ returns c =
     let p₂ = w.before.before.before in
     let p₁ = p₂.before.before.before.before in
     let a = p₁.before.before in
-    let s = a.before.before.before in
+    let s = a in
     let v = s.args.v in
     let b = s.args.body.now in
     let n = s.args.n in
     columns_written v b n s.args.out.now s.requires.1 a.address.ensures
     (w.word.ensures ∙ there v b n s.requires.0)
-    p₁.hex16.ensures p₂.put1.ensures p₃.hex8.ensures p₄.put12.ensures
+    p₁.hex16.ensures p₂.put1.ensures p₃.hex8.ensures p₄.put1-2.ensures
 
-pub put-columns-spec : {M : Type 1} → statement M
-put-columns-spec = tie.close (tie.spec
+pub put_columns_spec : {M : Type 1} → statement M
+put_columns_spec = tie.close (tie.spec
     (λ c κs. search rules) (λ c κs. search rules) (λ c. search rules) (λ c κs. search rules) (λ c κs. search rules)
     (λ c κs. search rules) (λ c. search rules) (λ c κs. search rules) (λ c. search rules)
     returns)

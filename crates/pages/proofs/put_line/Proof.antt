@@ -4,19 +4,19 @@ use Rattle.buffers.proofs.Writes.{front}
 use Rattle.pages.proofs.put_line.Statement.{statement}
 use Rattle.pages.proofs.put_line.Tie as tie
 
-slice-aggregate-put-whole : tie.Need-slice-aggregate-put-whole
-slice-aggregate-put-whole c =
-    let f = c.before.before.line_of.ensures in
+slice_bounds-put_whole-end : tie.Need-slice_bounds-put_whole-end
+slice_bounds-put_whole-end c =
+    let f = c.line_of-size.ensures in
     rw (front f) (omega (arith, f.after))
 
 returns : tie.Need-returns
 returns c =
-    let put = c.before.before in
-    rw (front put.before.before.before.before.line_of.ensures) at put.put_whole.ensures
+    let put = c in
+    rw (front put.line_of-size.ensures) at put.put_whole.ensures
 
-pub put-line-spec : {M : Type 1} → statement M
-put-line-spec = tie.close (tie.spec
+pub put_line_spec : {M : Type 1} → statement M
+put_line_spec = tie.close (tie.spec
     (λ c. search rules) (λ c κs. search rules) (λ c. search rules)
-    slice-aggregate-put-whole
+    slice_bounds-put_whole-end
     (λ c κs. search rules) (λ c. search rules)
     returns)
