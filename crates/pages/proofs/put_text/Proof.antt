@@ -44,7 +44,7 @@ returns c =
 
 pub put_text_spec : {M : Type 1} → statement M
 put_text_spec = tie.close (tie.spec
-    (λ c. search rules) (λ c κs. search rules) (λ c. search rules) (λ c κs. search rules)
+    (λ c κs. search rules) (λ c. search rules) (λ c κs. search rules)
     (λ c.
     let w = c.before.before in
     let u = w.before.before.before.before in
