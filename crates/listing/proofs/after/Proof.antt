@@ -4,14 +4,14 @@ use borrow.Author.Tests.{lt-ltb, le-ltb}
 use Rattle.listing.proofs.after.Statement.{statement}
 use Rattle.listing.proofs.after.Tie as tie
 
+returns-then-line-all : tie.Need-returns-then-line-all
+returns-then-line-all c = let a = c.args in rw (lt-ltb (a.c.line + a.lines) a.all c.if-line-all.true)
+
 returns : tie.Need-returns
-returns c = let a = c.before.before.args in rw (lt-ltb (a.c.line + a.lines) a.all c.if1.true)
+returns c =
+    let there = c in
+    let a = there.args in
+    rw (le-ltb (a.c.line + a.lines) a.all there.if-line-all.false)
 
-returns-2 : tie.Need-returns-2
-returns-2 c =
-    let there = c.before in
-    let a = there.before.before.args in
-    rw (le-ltb (a.c.line + a.lines) a.all there.if1.false)
-
-pub after-spec : {M : Type 1} → statement M
-after-spec = tie.close (tie.spec (λ c. search rules) returns (λ c. search rules) returns-2)
+pub after_spec : {M : Type 1} → statement M
+after_spec = tie.close (tie.spec (λ c. search rules) returns-then-line-all (λ c. search rules) returns)

@@ -8,63 +8,63 @@ use Rattle.listing.proofs.Ranges.{head_at, lines_are, ran_none, words_few, bytes
 use Rattle.listing.proofs.first_run.Statement.{statement}
 use Rattle.listing.proofs.first_run.Tie as tie
 
-returns : tie.Need-returns
-returns c =
+returns-then-size-eq0 : tie.Need-returns-then-size-eq0
+returns-then-size-eq0 c =
     let head = c.before.before.before in
-    let s = head.before.before.before.before in
+    let s = head in
     let a = s.args in
     let f = a.file.now in
     let e = head_at f a.n s.requires in
-    ran_none f a.n 0 a.out.now (rw e head.head.ensures) (omega (arith, lines_are f a.n s.requires))
-    (rw e (head_some f a.n)) c.if1.true
+    ran_none f a.n 0 a.out.now (rw e head.head-size.ensures) (omega (arith, lines_are f a.n s.requires))
+    (rw e (head_some f a.n)) c.if-size-eq0.true
 
 -- the page after the head
-module _ (c : tie.After-page) where
+module _ (c : tie.After-page-p) where
   abbrev view-call : tie.After-view
   view-call = c.before.before
 
-  abbrev head-there : tie.Else1
+  abbrev head-there : tie.Else-size-eq0
   head-there = view-call.before.before
 
-  abbrev head-call : tie.After-head
+  abbrev head-call : tie.After-head-size
   head-call = head-there.before.before.before
 
   abbrev start : tie.Start
   start = head-call.before.before.before.before
 
-  few : c.page.result.words ≤ 16383
+  few : c.page-p.result.words ≤ 16383
   few =
       let a = start.args in
       omega (
         arith,
         words_most a.file.now a.n,
-        words_few a.file.now a.n start.pre a.out.now head-call.head.ensures head-there.if1.left
-            view-call.view.ensures view-call.before.body.ensures.0 c.page.ensures,
+        words_few a.file.now a.n start.requires a.out.now head-call.head-size.ensures head-there.if-size-eq0.false
+            view-call.view.ensures view-call.body.ensures.0 c.page-p.ensures,
       )
 
-  fits : head-call.head.result + c.page.result.bytes ≤ length start.args.out.now
+  fits : head-call.head-size.result + c.page-p.result.bytes ≤ length start.args.out.now
   fits =
       let a = start.args in
-      bytes_fit a.file.now a.n start.pre a.out.now head-call.head.ensures head-there.if1.left
-      view-call.view.ensures view-call.before.body.ensures.0 c.page.ensures
+      bytes_fit a.file.now a.n start.requires a.out.now head-call.head-size.ensures head-there.if-size-eq0.false
+      view-call.view.ensures view-call.body.ensures.0 c.page-p.ensures
 
-returns-2 : tie.Need-returns-2
-returns-2 c =
+returns : tie.Need-returns
+returns c =
     let page = c.before.before.before.before in
     let view = page.before.before in
     let there = view.before.before in
     let head = there.before.before.before in
-    let s = head.before.before.before.before in
+    let s = head in
     let a = s.args in
-    ran_head a.file.now a.n s.requires a.out.now head.head.ensures there.if1.false view.view.ensures
-    view.before.body.ensures.0 page.page.ensures
+    ran_head a.file.now a.n s.requires a.out.now head.head-size.ensures there.if-size-eq0.false view.view.ensures
+    view.body.ensures.0 page.page-p.ensures
 
-pub first-run-spec : {M : Type 1} → statement M
-first-run-spec = tie.close (tie.spec
+pub first_run_spec : {M : Type 1} → statement M
+first_run_spec = tie.close (tie.spec
     (λ c κs. search rules) (λ c. search rules)
-    returns
+    returns-then-size-eq0
     (λ c κs. search rules) (λ c κs. search rules) (λ c κs. search rules)
     (λ c. omega (arith, few c.before.before.before))
     (λ c. omega (arith, fits c.before.before.before.before))
     (λ c. search rules)
-    returns-2)
+    returns)

@@ -6,26 +6,26 @@ use Rattle.listing.proofs.Ranges.{last_is, last_one, ran_none, ran_one}
 use Rattle.listing.proofs.last_run.Statement.{statement}
 use Rattle.listing.proofs.last_run.Tie as tie
 
-returns : tie.Need-returns
-returns c =
-    let last = c.before.before.before in
-    let a = last.before.before.before.before.args in
+returns-then-size-eq0 : tie.Need-returns-then-size-eq0
+returns-then-size-eq0 c =
+    let last = c in
+    let a = last.args in
     let f = a.file.now in
     let e = last_is f 0 in
-    ran_none f (count_of f) 0 a.out.now (rw e last.last.ensures) (omega (arith, last_one f))
-    (rw e (last_some f)) c.if1.true
+    ran_none f (count_of f) 0 a.out.now (rw e last.last-size.ensures) (omega (arith, last_one f))
+    (rw e (last_some f)) c.if-size-eq0.true
 
-returns-2 : tie.Need-returns-2
-returns-2 c =
-    let last = c.before.before.before in
-    let a = last.before.before.before.before.args in
+returns : tie.Need-returns
+returns c =
+    let last = c in
+    let a = last.args in
     let f = a.file.now in
-    ran_one f (count_of f) 0 a.out.now (rw (last_is f 0) last.last.ensures) c.if1.false
+    ran_one f (count_of f) 0 a.out.now (rw (last_is f 0) last.last-size.ensures) c.if-size-eq0.false
     (omega (arith, last_one f))
 
-pub last-run-spec : {M : Type 1} → statement M
-last-run-spec = tie.close (tie.spec
+pub last_run_spec : {M : Type 1} → statement M
+last_run_spec = tie.close (tie.spec
     (λ c κs. search rules) (λ c. search rules)
-    returns
+    returns-then-size-eq0
     (λ c. search rules)
-    returns-2)
+    returns)

@@ -14,29 +14,29 @@ use Rattle.listing.proofs.Pieces.{most, no_line, no_bytes, full, ended, listed}
 use Rattle.listing.proofs.piece.Statement.{statement}
 use Rattle.listing.proofs.piece.Tie as tie
 
-returns : tie.Need-returns
-returns c =
+returns-then-all-c : tie.Need-returns-then-all-c
+returns-then-all-c c =
     let all = c.before.before in
-    let a = all.before.before.before.args in
+    let a = all.args in
     let f = a.file.now in
     let room = length a.out.now in
-    let h : lines_in f a.c.section ≤ a.c.line = omega (arith, c.if1.true, all.lines-in.ensures) in
+    let h : lines_in f a.c.section ≤ a.c.line = omega (arith, c.if-all-c.true, all.lines_in-all.ensures) in
     (ended f room a.c h, rw (no_bytes f room a.c (no_line f room a.c h)))
 
 -- past the first test: there is a line
-module _ (c : tie.Else1) where
-  abbrev all-call : tie.After-lines-in
+module _ (c : tie.Else-all-c) where
+  abbrev all-call : tie.After-lines_in-all
   all-call = c.before.before
 
   abbrev start : tie.Start
   start = all-call.before.before.before
 
   below : start.args.c.line < lines_in start.args.file.now start.args.c.section
-  below = omega (arith, all-call.lines-in.ensures, c.if1.false)
+  below = omega (arith, all-call.lines_in-all.ensures, c.if-all-c.false)
 
 -- what was run is the piece
-module _ (c : tie.After-run-from) where
-  abbrev there : tie.Else1
+module _ (c : tie.After-run_from-r) where
+  abbrev there : tie.Else-all-c
   there = c.before.before
 
   abbrev file : List ℕ
@@ -48,22 +48,22 @@ module _ (c : tie.After-run-from) where
   abbrev from : Cursor
   from = (start there).args.c
 
-  lines_are : c.run-from.result.lines ≡ piece_lines file (length out) from
+  lines_are : c.run_from-r.result.lines ≡ piece_lines file (length out) from
   unfolding piece_lines
-  lines_are = c.run-from.ensures.fit
+  lines_are = c.run_from-r.ensures.fit
 
-  text-is : lines_from (line_at file from.section) c.run-from.result.lines from.line ≡
+  text-is : lines_from (line_at file from.section) c.run_from-r.result.lines from.line ≡
       piece_bytes file (length out) from
   unfolding piece_bytes
   text-is = ap (λ (k : ℕ). lines_from (line_at file from.section) k from.line) lines_are
 
-  left : c.run-from.new.1.1.1.0 ≡ over (piece_bytes file (length out) from) out
-  left = c.run-from.ensures.text ∙ ap (λ (l : List ℕ). over l out) text-is
+  left : c.run_from-r.new.out ≡ over (piece_bytes file (length out) from) out
+  left = c.run_from-r.ensures.text ∙ ap (λ (l : List ℕ). over l out) text-is
 
-returns-2 : tie.Need-returns-2
-returns-2 c =
+returns-then-r-eq0 : tie.Need-returns-then-r-eq0
+returns-then-r-eq0 c =
     let run = c.before.before.before.before in (
-      full (file run) (length (out run)) (from run) (sym (lines_are run) ∙ c.if2.true) (below (there run)),
+      full (file run) (length (out run)) (from run) (sym (lines_are run) ∙ c.if-r-eq0.true) (below (there run)),
       left run,
     )
 
@@ -72,33 +72,33 @@ after-requires c κs =
     let run = c.before.before.before.before in
     let f = file run in
     let at = from run in
-    let all = (all-call (there run)).lines-in.ensures in
+    let all = (all-call (there run)).lines_in-all.ensures in
     let h = below (there run) in (
       omega (arith, all, lines_are run, most f (length (out run)) at, h),
       omega (arith, count_most f, lines_within f at.section at.line h),
       omega (arith, all, lines_most f at.section),
     )
 
-returns-3 : tie.Need-returns-3
-returns-3 c =
+returns : tie.Need-returns
+returns c =
     let some = c.before in
     let run = some.before.before.before.before in
     let f = file run in
     let o = out run in
     let at = from run in (
-      listed f (length o) at (below (there run)) (λ z. some.if2.false (lines_are run ∙ z)) (lines_are run)
-          (all-call (there run)).lines-in.ensures (run.run-from.ensures.long ∙ ap length (text-is run))
+      listed f (length o) at (below (there run)) (λ z. some.if-r-eq0.false (lines_are run ∙ z)) (lines_are run)
+          (all-call (there run)).lines_in-all.ensures (run.run_from-r.ensures.long ∙ ap length (text-is run))
           c.after.ensures,
       left run,
     )
 
-pub piece-spec : {M : Type 1} → statement M
-piece-spec = tie.close (tie.spec
+pub piece_spec : {M : Type 1} → statement M
+piece_spec = tie.close (tie.spec
     (λ c κs. search rules)
-    returns
+    returns-then-all-c
     (λ c κs. below c.before)
     (λ c. search rules)
-    returns-2
+    returns-then-r-eq0
     after-requires
     (λ c. search rules)
-    returns-3)
+    returns)

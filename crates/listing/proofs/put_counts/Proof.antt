@@ -13,22 +13,22 @@ use Rattle.listing.proofs.put_counts.Tie as tie
 line-there : (put : tie.After-put1) →
     let second = put.before.before.before in
     let first = second.before.before.before in
-    let a = first.before.before.before.before.before.args in
-    let size = second.put-number2.result + 1 in
+    let a = first.args in
+    let size = second.put_number-end.result + 1 in
     let l = counted a.before.now a.m a.between.now a.n in
-    (take size put.put1.new.1.0 ≡ l) × (size ≡ length l)
+    (take size put.put1.new.dst ≡ l) × (size ≡ length l)
 line-there put =
     let second = put.before.before.before in
     let first = second.before.before.before in
-    let s = first.before.before.before.before.before in
+    let s = first in
     let a = s.args in
     let w =
     counts_written a.before.now a.between.now a.m a.n (omega (arith, s.requires))
-    first.put-number.ensures second.put-number2.ensures put.put1.ensures in
+    first.put_number-at.ensures second.put_number-end.ensures put.put1.ensures in
     (front w, omega (arith, w.after))
 
-slice-aggregate-put-whole : tie.Need-slice-aggregate-put-whole
-slice-aggregate-put-whole c = let l = line-there c.before.before in rw l.0 l.1
+slice_bounds-put_whole-end : tie.Need-slice_bounds-put_whole-end
+slice_bounds-put_whole-end c = let l = line-there c.before.before in rw l.0 l.1
 
 returns : tie.Need-returns
 returns c =
@@ -36,14 +36,14 @@ returns c =
     let p = rw (line-there put.before.before.before.before).0 at put.put_whole.ensures in
     record { size_is = p.0; left = p.1 }
 
-pub put-counts-spec : {M : Type 1} → statement M
-put-counts-spec = tie.close (tie.spec
+pub put_counts_spec : {M : Type 1} → statement M
+put_counts_spec = tie.close (tie.spec
     (λ c. search rules) (λ c κs. search rules) (λ c. search rules)
     (λ c κs.
     let first = c.before.before in
-    let s = first.before.before.before.before.before in
-    omega (arith, first.put-number.ensures.short, s.requires))
+    let s = first in
+    omega (arith, first.put_number-at.ensures.short, s.requires))
     (λ c. search rules) (λ c κs. search rules) (λ c. search rules) (λ c. search rules)
-    slice-aggregate-put-whole
+    slice_bounds-put_whole-end
     (λ c κs. search rules) (λ c. search rules)
     returns)

@@ -9,17 +9,17 @@ use Rattle.text.proofs.Lengths.{numeral_most}
 use Rattle.listing.proofs.put_number.Statement.{statement}
 use Rattle.listing.proofs.put_number.Tie as tie
 
-add-result : tie.Need-overflow-add-result
-add-result c =
+overflow_add-result : tie.Need-overflow_add-result
+overflow_add-result c =
     let count = c.before.before in
-    let s = count.before.before.before.before.before.before.before.before in
+    let s = count in
     omega (arith, count.count.ensures.0, numeral_most 10 s.args.n, s.requires)
 
 returns : tie.Need-returns
 returns c =
     let count = c.before.before in
     let put = count.before.before.before.before in
-    let s = put.before.before.before.before in
+    let s = put in
     let a = s.args in
     let b = a.before.now in
     let most = numeral_most 10 a.n in
@@ -30,9 +30,9 @@ returns c =
     count.count.ensures.1)
     (omega (arith, s.requires))
 
-pub put-number-spec : {M : Type 1} → statement M
-put-number-spec = tie.close (tie.spec
+pub put_number_spec : {M : Type 1} → statement M
+put_number_spec = tie.close (tie.spec
     (λ c κs. search rules) (λ c. search rules) (λ c κs. search rules)
-    add-result
+    overflow_add-result
     (λ c. search rules)
     returns)

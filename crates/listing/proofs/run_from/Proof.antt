@@ -6,40 +6,40 @@ use Rattle.listing.proofs.Ranges.{only_last, ran_words}
 use Rattle.listing.proofs.run_from.Statement.{statement}
 use Rattle.listing.proofs.run_from.Tie as tie
 
-returns : tie.Need-returns
-returns c =
+returns-then-count-n : tie.Need-returns-then-count-n
+returns-then-count-n c =
     let last = c.before.before in
     let past = last.before.before in
     let count = past.before in
-    let s = count.before.before.before in
+    let s = count in
     let a = s.args in
-    let e = only_last a.file.now a.n a.j s.requires (omega (arith, past.if1.true, count.count.ensures)) in
-    rw (e.0, e.1) last.last-run.ensures
+    let e = only_last a.file.now a.n a.j s.requires (omega (arith, past.if-count-n.true, count.count.ensures)) in
+    rw (e.0, e.1) last.last_run.ensures
 
 -- a section that is there
-there : (c : tie.Else1) → let a = c.before.before.before.before.args in a.n < count_of a.file.now
-there c = omega (arith, c.if1.false, c.before.count.ensures)
+there : (c : tie.Else-count-n) → let a = c.args in a.n < count_of a.file.now
+there c = omega (arith, c.if-count-n.false, c.count.ensures)
 
-returns-2 : tie.Need-returns-2
-returns-2 c =
-    let first = c.before.before in
-    rw first.before.before.if2.true first.first_run.ensures
+returns-then-j-eq0 : tie.Need-returns-then-j-eq0
+returns-then-j-eq0 c =
+    let first = c in
+    rw first.if-j-eq0.true first.first_run.ensures
 
-returns-3 : tie.Need-returns-3
-returns-3 c =
+returns : tie.Need-returns
+returns c =
     let page = c.before.before in
     let view = page.before.before in
     let words = view.before.before in
-    let a = words.before.before.before.before.before.args in
-    ran_words a.file.now a.n (there words.before) a.j (omega (arith, words.if2.false)) a.out.now
-    view.view.ensures view.before.body.ensures.0 page.page.ensures
+    let a = words.args in
+    ran_words a.file.now a.n (there words.before) a.j (omega (arith, words.if-j-eq0.false)) a.out.now
+    view.view.ensures view.body.ensures.0 page.page-p.ensures
 
-pub run-from-spec : {M : Type 1} → statement M
-run-from-spec = tie.close (tie.spec
+pub run_from_spec : {M : Type 1} → statement M
+run_from_spec = tie.close (tie.spec
     (λ c κs. search rules) (λ c κs. search rules) (λ c. search rules)
-    returns
+    returns-then-count-n
     (λ c κs. there c.before.before)
     (λ c. search rules)
-    returns-2
+    returns-then-j-eq0
     (λ c κs. search rules) (λ c κs. search rules) (λ c. search rules) (λ c κs. search rules) (λ c. search rules)
-    returns-3)
+    returns)

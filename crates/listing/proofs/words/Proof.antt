@@ -4,7 +4,7 @@ use Rattle.body.specs.Body.{words_in}
 use Rattle.listing.proofs.words.Statement.{statement}
 use Rattle.listing.proofs.words.Tie as tie
 
-pub words-spec : {M : Type 1} → statement M
-words-spec = tie.close (tie.spec
+pub words_spec : {M : Type 1} → statement M
+words_spec = tie.close (tie.spec
     (λ c κs. search rules) (λ c κs. search rules)
-    (λ c. c.count.ensures ∙ ap words_in c.before.body.ensures.0))
+    (λ c. c.count.ensures ∙ ap words_in c.body.ensures.0))
