@@ -8,9 +8,9 @@ use Rattle.calmuredda.proofs.calmuredda_block.Tie as tie
 
 returns : tie.Need-returns
 returns c =
-    let a = c.before.before.before.args in
-    let e = c.block.ensures ∙ ap (λ (v : View). block_of v a.body.now a.index) c.before.view_of.ensures in
+    let a = c.args in
+    let e = c.block-b.ensures ∙ ap (λ (v : View). block_of v a.body.now a.index) c.view_of.ensures in
     (ap (λ (b : Ended). b.number) e, (ap (λ (b : Ended). b.kind) e, ap (λ (b : Ended). b.words) e))
 
-pub calmuredda-block-spec : {M : Type 1} → statement M
-calmuredda-block-spec = tie.close (tie.spec (λ c κs. search rules) (λ c κs. search rules) returns)
+pub calmuredda_block_spec : {M : Type 1} → statement M
+calmuredda_block_spec = tie.close (tie.spec (λ c κs. search rules) (λ c κs. search rules) returns)

@@ -8,12 +8,12 @@ use Rattle.calmuredda.proofs.calmuredda_decode.Tie as tie
 
 returns : tie.Need-returns
 returns c =
-    let s = c.before.before.before.before.before.before.before in
+    let s = c in
     let l = s.args.«record».now in
-    let e = c.before.before.before.before.decode.ensures in
-    (c.before.before.pack.ensures.0 ∙ ap (λ (d : Decoded). pack_number d (length l)) e, c.before.before.pack.ensures.1 ∙ ap (λ (d : Decoded). packed d l) e)
+    let e = c.decode.ensures in
+    (c.pack.ensures.0 ∙ ap (λ (d : Decoded). pack_number d (length l)) e, c.pack.ensures.1 ∙ ap (λ (d : Decoded). packed d l) e)
 
-pub calmuredda-decode-spec : {M : Type 1} → statement M
-calmuredda-decode-spec = tie.close (tie.spec
+pub calmuredda_decode_spec : {M : Type 1} → statement M
+calmuredda_decode_spec = tie.close (tie.spec
     (λ c κs. search rules) (λ c κs. search rules) (λ c. search rules)
     returns)

@@ -22,24 +22,24 @@ some : (l : List ℕ) (room : ℕ) → (unpacked l).number ≡ 0 →
     (line_number l room ≡ print_number plain (unpacked l).insn room) × (line_bytes l room ≡ printed plain (unpacked l).insn room)
 some l room h = (rw (eq-eqb _ _ h), rw (eq-eqb _ _ h))
 
-returns : tie.Need-returns
-returns c =
-    let a = c.before.before.before.before.before.args in
+returns-then-d-ne0 : tie.Need-returns-then-d-ne0
+returns-then-d-ne0 c =
+    let a = c.args in
     let l = a.«record».now in
     let d = a.out.now in
-    let e = ap (λ (x : Decoded). x.number) c.before.before.unpack.ensures in
-    let n = none l (length d) (λ z. c.if1.true (e ∙ z)) in
+    let e = ap (λ (x : Decoded). x.number) c.unpack-d.ensures in
+    let n = none l (length d) (λ z. c.if-d-ne0.true (e ∙ z)) in
     (e ∙ sym n.0, (ap length (sym n.1), ap (λ (b : List ℕ). over b d) (sym n.1)))
 
-returns-2 : tie.Need-returns-2
-returns-2 c =
-    let tested = c.before.before.before.before.before in
-    let a = tested.before.before.before.before.before.args in
+returns : tie.Need-returns
+returns c =
+    let tested = c in
+    let a = tested.args in
     let l = a.«record».now in
     let d = a.out.now in
-    let u = tested.before.before.unpack.ensures in
-    let s = some l (length d) (sym (ap (λ (x : Decoded). x.number) u) ∙ tested.if1.false) in
-    let p = c.before.before.print.ensures in
+    let u = tested.unpack-d.ensures in
+    let s = some l (length d) (sym (ap (λ (x : Decoded). x.number) u) ∙ tested.if-d-ne0.false) in
+    let p = c.print-p.ensures in
     let e = p.0 ∙ ap (λ (x : Decoded). printed_of plain x.insn (length d)) u in (
       ap (λ (x : Printed). x.number) e ∙ sym s.0,
       (
@@ -49,5 +49,5 @@ returns-2 c =
       ),
     )
 
-pub calmuredda-line-spec : {M : Type 1} → statement M
-calmuredda-line-spec = tie.close (tie.spec (λ c κs. search rules) returns (λ c κs. search rules) (λ c. search rules) returns-2)
+pub calmuredda_line_spec : {M : Type 1} → statement M
+calmuredda_line_spec = tie.close (tie.spec (λ c κs. search rules) returns-then-d-ne0 (λ c κs. search rules) (λ c. search rules) returns)

@@ -6,7 +6,7 @@ use Rattle.calmuredda.proofs.calmuredda_listing.Tie as tie
 
 returns : tie.Need-returns
 returns c =
-    let p = c.before.before.before.piece.ensures in (
+    let p = c.piece-p.ensures in (
       ap (λ (l : Listed). l.number) p.0,
       (
         ap (λ (l : Listed). l.next.section) p.0,
@@ -14,5 +14,5 @@ returns c =
       ),
     )
 
-pub calmuredda-listing-spec : {M : Type 1} → statement M
-calmuredda-listing-spec = tie.close (tie.spec (λ c κs. search rules) (λ c. search rules) returns)
+pub calmuredda_listing_spec : {M : Type 1} → statement M
+calmuredda_listing_spec = tie.close (tie.spec (λ c κs. search rules) (λ c. search rules) returns)

@@ -11,10 +11,10 @@ use Rattle.calmuredda.proofs.calmuredda_page.Tie as tie
 
 returns : tie.Need-returns
 returns c =
-    let a = c.before.before.before.before.before.before.before.args in
+    let a = c.args in
     let d = a.out.now in
-    let p = c.before.before.page.ensures in
-    let v = c.before.before.before.before.view_of.ensures in
+    let p = c.page-p.ensures in
+    let v = c.view_of.ensures in
     let e = p.0 ∙ ap (λ (x : View). page_of plain x a.body.now a.index (length d) a.place) v in (
       ap (λ (b : Paged). b.number) e,
       (
@@ -26,6 +26,6 @@ returns c =
       ),
     )
 
-pub calmuredda-page-spec : {M : Type 1} → statement M
-calmuredda-page-spec =
+pub calmuredda_page_spec : {M : Type 1} → statement M
+calmuredda_page_spec =
     tie.close (tie.spec (λ c κs. search rules) (λ c κs. search rules) (λ c. search rules) returns)

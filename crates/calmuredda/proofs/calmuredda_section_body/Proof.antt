@@ -7,9 +7,9 @@ use Rattle.calmuredda.proofs.calmuredda_section_body.Tie as tie
 
 returns : tie.Need-returns
 returns c =
-    let a = c.before.before.before.before.args in
-    (c.refusal.ensures, (c.before.before.start.ensures, ap length c.before.body.ensures.0 ∙ theorems.sized a.file.now a.n))
+    let a = c.args in
+    (c.refusal.ensures, (c.start.ensures, ap length c.body.ensures.0 ∙ theorems.sized a.file.now a.n))
 
-pub calmuredda-section-body-spec : {M : Type 1} → statement M
-calmuredda-section-body-spec =
+pub calmuredda_section_body_spec : {M : Type 1} → statement M
+calmuredda_section_body_spec =
     tie.close (tie.spec (λ c κs. search rules) (λ c κs. search rules) (λ c κs. search rules) returns)
