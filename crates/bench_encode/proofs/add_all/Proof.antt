@@ -3,16 +3,16 @@ use Rattle.std.proofs.Common.{arith}
 use Rattle.bench_encode.proofs.add_all.Statement.{statement}
 use Rattle.bench_encode.proofs.add_all.Tie as tie
 
-abbrev invariant-loop : tie.invariant-loop
-invariant-loop s₀ turns₀ s turns = Unit {0}
+abbrev invariant-loop-turns : tie.invariant-loop-turns
+invariant-loop-turns s₀ turns₀ s turns = Unit {0}
 
-abbrev decreases-loop : tie.decreases-loop
-decreases-loop s₀ turns₀ s turns = turns
+abbrev decreases-loop-turns : tie.decreases-loop-turns
+decreases-loop-turns s₀ turns₀ s turns = turns
 
-pub add-all-spec : {M : Type 1} → statement M
-add-all-spec = tie.close (tie.spec
-    invariant-loop
-    decreases-loop
+pub add_all_spec : {M : Type 1} → statement M
+add_all_spec = tie.close (tie.spec
+    invariant-loop-turns
+    decreases-loop-turns
     (λ c. tt)
     (λ c κs. tt)
     (λ c. omega arith)

@@ -3,16 +3,16 @@ use Rattle.std.proofs.Common.{◌-◌, ◌≤◌, length, arith, rules}
 use Rattle.bench_encode.proofs.add_words.Statement.{statement}
 use Rattle.bench_encode.proofs.add_words.Tie as tie
 
-abbrev invariant-loop : tie.invariant-loop
-invariant-loop b s₀ at₀ s at = at ≤ length b
+abbrev invariant-loop-at : tie.invariant-loop-at
+invariant-loop-at b s₀ at₀ s at = at ≤ length b
 
-abbrev decreases-loop : tie.decreases-loop
-decreases-loop b s₀ at₀ s at = length b - at
+abbrev decreases-loop-at : tie.decreases-loop-at
+decreases-loop-at b s₀ at₀ s at = length b - at
 
-pub add-words-spec : {M : Type 1} → statement M
-add-words-spec = tie.close (tie.spec
-    invariant-loop
-    decreases-loop
+pub add_words_spec : {M : Type 1} → statement M
+add_words_spec = tie.close (tie.spec
+    invariant-loop-at
+    decreases-loop-at
     (λ c. search rules) (λ c. search rules) (λ c. search rules) (λ c. search rules) (λ c. search rules)
     (λ c. search rules) (λ c. search rules) (λ c. search rules) (λ c. search rules) (λ c κs. search rules)
     (λ c κs. search rules) (λ c. search rules) (λ c. search rules) (λ c. search rules)
