@@ -8,7 +8,7 @@ use native.Mathlib.Omega.{arith}
 use lib.ListN.{length, get_or, replicate}
 use lib.Seq.{get_or-append-add}
 use contract.Lifetimes.{Lfts}
-use denote.Ref.{Bor}
+use Rattle.std.specs.Borrow.{Bor, MutBor}
 use Rattle.word.specs.Word.{fields_of}
 use Rattle.word.specs.Numbers.{imm, index, signed, jump_to}
 use Rattle.reading.specs.declared.Decoded.{Decoded}
@@ -90,7 +90,7 @@ unfolding page_words fitting word_line answer_text decoded_at decoded_of decoded
 six_words = refl
 
 -- what the contract says of the example
-module _ {κs : Lfts 2} {body out : Bor (List ℕ)} {x : Paged} {l : List ℕ} (h : Lists κs body out x l) where
+module _ {κs : Lfts 2} {body : Bor (List ℕ)} {out : MutBor (List ℕ)} {x : Paged} {l : List ℕ} (h : Lists κs body out x l) where
   left : l ≡ sheet
   left =
       h.meets.1

@@ -2,7 +2,7 @@
 -- stated of one case where it is wrong; that no other wrong answer meets them is what Theorems.antt says.
 use Rattle.std.specs.Prelude.{ℕ, suc, ◌<◌, ◌≡◌, Bool, true, false, List, [], ◌∷◌, ◌++◌, get_or, replicate}
 use contract.Lifetimes.{Lfts}
-use Rattle.std.specs.Borrow.{Bor}
+use Rattle.std.specs.Borrow.{Bor, MutBor}
 use Rattle.reading.specs.declared.Decoded.{Decoded}
 use Rattle.reading.specs.Reading.{refused_of}
 use Rattle.decode.proofs.decode_word.Kinds as decode-word-kinds
@@ -38,7 +38,7 @@ OneReading = (κs : Lfts 0) (d : Decoded) → ¬ ((w va : ℕ) (wide : Bool) →
 -- an untouched record: 80 bytes 255 are not the record of any answer, so they do not stay, whatever number is answered
 abbrev pub UntouchedRecord : Type 0
 UntouchedRecord =
-    (κs : Lfts 1) (d : Decoded) (out : Bor (List ℕ)) (number : ℕ) → out.now ≡ replicate 80 255 →
+    (κs : Lfts 1) (d : Decoded) (out : MutBor (List ℕ)) (number : ℕ) → out.now ≡ replicate 80 255 →
     ¬ Meets pack-kinds.ps pack-kinds.r pack.Learnt κs (d, (out, tt)) number (tt, (out.now, tt))
 
 -- ── the page ──
@@ -55,7 +55,7 @@ view = record { va = 0x80001000; big_endian = true; wide = false }
 
 -- the example in a lent slice is listed from its start on into another, of 300 bytes 0, which is more than its lines
 -- have; x is answered, and l is left there. The contract is met
-pub record Lists (κs : Lfts 2) (body out : Bor (List ℕ)) (x : Paged) (l : List ℕ) : Type 0 where
+pub record Lists (κs : Lfts 2) (body : Bor (List ℕ)) (out : MutBor (List ℕ)) (x : Paged) (l : List ℕ) : Type 0 where
   pub is_example : body.now ≡ example
   pub is_blank : out.now ≡ replicate 300 0
   pub meets :
@@ -64,28 +64,28 @@ pub record Lists (κs : Lfts 2) (body out : Bor (List ℕ)) (x : Paged) (l : Lis
 
 -- an untouched page
 abbrev pub UntouchedPage : Type 0
-UntouchedPage = (κs : Lfts 2) (body out : Bor (List ℕ)) (x : Paged) → ¬ Lists κs body out x (replicate 300 0)
+UntouchedPage = (κs : Lfts 2) (body : Bor (List ℕ)) (out : MutBor (List ℕ)) (x : Paged) → ¬ Lists κs body out x (replicate 300 0)
 
 -- a true first line and mere spaces below
 abbrev pub SpacesBelow : Type 0
 SpacesBelow =
-    (κs : Lfts 2) (body out : Bor (List ℕ)) (x : Paged) (n : ℕ) →
+    (κs : Lfts 2) (body : Bor (List ℕ)) (out : MutBor (List ℕ)) (x : Paged) (n : ℕ) →
     ¬ Lists κs body out x (word_line plain view example 0 ++ replicate n 32)
 
 -- invented words: more than there are
 abbrev pub InventedWords : Type 0
 InventedWords =
-    (κs : Lfts 2) (body out : Bor (List ℕ)) (x : Paged) (l : List ℕ) → 6 < x.words → ¬ Lists κs body out x l
+    (κs : Lfts 2) (body : Bor (List ℕ)) (out : MutBor (List ℕ)) (x : Paged) (l : List ℕ) → 6 < x.words → ¬ Lists κs body out x l
 
 -- invented bytes: something after the last line
 abbrev pub InventedBytes : Type 0
 InventedBytes =
-    (κs : Lfts 2) (body out : Bor (List ℕ)) (x : Paged) (l : List ℕ) → ¬ (get_or l 299 0 ≡ 0) → ¬ Lists κs body out x l
+    (κs : Lfts 2) (body : Bor (List ℕ)) (out : MutBor (List ℕ)) (x : Paged) (l : List ℕ) → ¬ (get_or l 299 0 ≡ 0) → ¬ Lists κs body out x l
 
 -- while the six lines and six words do meet it
 abbrev pub RightPage : Type 0
 RightPage =
-    (κs : Lfts 2) (body out : Bor (List ℕ)) → body.now ≡ example → out.now ≡ replicate 300 0 →
+    (κs : Lfts 2) (body : Bor (List ℕ)) (out : MutBor (List ℕ)) → body.now ≡ example → out.now ≡ replicate 300 0 →
     Lists κs body out (page_of plain view example 0 300 0)
     (over (lines_from (word_line plain view example) 6 0) (replicate 300 0))
 
