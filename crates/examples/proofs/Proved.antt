@@ -18,7 +18,7 @@ use Rattle.classes.specs.Table.{rd_rt_sa, offset, rt_imm, jumps, computes, sets_
 use Rattle.classes.specs.Table.{by_width, table}
 use Rattle.laws.specs.Lists.{elem}
 use Rattle.classes.specs.Refusals.{holds, meets, refusal, refusals}
-use Rattle.reading.specs.Reading.{accepted_as}
+use Rattle.reading.specs.Reading.{accepted_as, refused_of}
 use Rattle.classes.specs.Decoded.{decoded_by, decoded_of}
 use Rattle.inverse.specs.Encoded.{encoded_as, Encodes}
 use Rattle.inverse.specs.Private.Fill.{branch_back, part, filled}
@@ -84,8 +84,8 @@ words_proved =
     ⨾ (λ va wide. (refl, refl, refl, refl))
     ⨾ (λ va wide. (refl, refl, refl, refl))
     ⨾ (λ va wide. ((refl, refl, refl, refl), refl))
-    ⨾ (λ va wide. elim wide [ true ↦ refl | false ↦ refl ])
-    ⨾ (λ va wide. elim wide [ true ↦ refl | false ↦ refl ])
+    ⨾ (λ va wide. elim wide as (λ k. decoded_of 53 va k ≡ refused_of 3) [ true ↦ refl | false ↦ refl ])
+    ⨾ (λ va wide. elim wide as (λ k. decoded_of 0x7c000001 va k ≡ refused_of 8) [ true ↦ refl | false ↦ refl ])
     ⨾ tt
 
 -- ── what `sweep` prints ──

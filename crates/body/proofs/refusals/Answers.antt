@@ -18,8 +18,8 @@ loop-n-preserved c =
     let h : l.n < words_in a.body.now = omega (arith, c.count-words.ensures, c.loop-n-test.true) in
     let e = ap (λ (d : Decoded). d.number) c.decoded-d.ensures in
     elim c.if-d-ne0.branch [
-      then-d-ne0 w ↦ rw w.found-is (one_more a.v a.body.now l.n l.found l.invariant h (λ z. w.if-d-ne0.true (e ∙ z)))
-    | else-d-ne0 w ↦ rw w.found-is (no_more a.v a.body.now l.n l.found l.invariant h (sym e ∙ w.if-d-ne0.false))
+      | then-d-ne0 w ↦ rw w.found-is (one_more a.v a.body.now l.n l.found l.invariant h (λ z. w.if-d-ne0.true (e ∙ z)))
+      | else-d-ne0 w ↦ rw w.found-is (no_more a.v a.body.now l.n l.found l.invariant h (sym e ∙ w.if-d-ne0.false))
     ]
 
 pub returns : goal.returns

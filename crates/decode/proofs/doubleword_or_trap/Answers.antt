@@ -79,4 +79,3 @@ returns-in_default c =
     left_over (op ≐ 0 ∷ funct is_none_of keys ∷ funct is_none_of arithmetics ∷ funct is_none_of moves ∷ funct is_none_of shifts ∷ [])
     (c.requires.0, (subst (λ (k : ℕ). NoneOf k keys) (sym c.requires.1.0) c.in_default.in_default-own.rest, c.requires.1.1))
     refl tt
-

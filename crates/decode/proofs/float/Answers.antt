@@ -20,22 +20,22 @@ unpicked c = subst (λ (k : ℕ). NoneOf k functs) c.funct-funct.ensures c.in_de
 picked : (c : Joined-funct) → Picked arms c.funct-funct.result c.match-funct.base
 picked c =
     elim c.match-funct.branch [
-      in-0 w ↦ inl (w.in-0.is, w.base-is)
-    | in-1 w ↦ inr (inl (w.in-1.is, w.base-is))
-    | in-2 w ↦ inr (inr (inl (w.in-2.is, w.base-is)))
-    | in-3 w ↦ inr (inr (inr (inl (w.in-3.is, w.base-is))))
-    | in-4 w ↦ inr (inr (inr (inr (inl (w.in-4.is, w.base-is)))))
-    | in-5 w ↦ inr (inr (inr (inr (inr (inl (w.in-5.is, w.base-is))))))
-    | in-6 w ↦ inr (inr (inr (inr (inr (inr (inl (w.in-6.is, w.base-is)))))))
-    | in-7 w ↦ inr (inr (inr (inr (inr (inr (inr (inl (w.in-7.is, w.base-is))))))))
-    | in-13 w ↦ inr (inr (inr (inr (inr (inr (inr (inr (inl (w.in-13.is, w.base-is)))))))))
-    | in-32 w ↦ inr (inr (inr (inr (inr (inr (inr (inr (inr (inl (w.in-32.is, w.base-is))))))))))
-    | in-33 w ↦ inr (inr (inr (inr (inr (inr (inr (inr (inr (inr (inl (w.in-33.is, w.base-is)))))))))))
-    | in-36 w ↦ inr (inr (inr (inr (inr (inr (inr (inr (inr (inr (inr (inl (w.in-36.is, w.base-is))))))))))))
-    | in-37 w ↦ inr (inr (inr (inr (inr (inr (inr (inr (inr (inr (inr (inr (inl (w.in-37.is, w.base-is)))))))))))))
-    | in-50 w ↦ inr (inr (inr (inr (inr (inr (inr (inr (inr (inr (inr (inr (inr (inl (w.in-50.is, w.base-is))))))))))))))
-    | in-60 w ↦ inr (inr (inr (inr (inr (inr (inr (inr (inr (inr (inr (inr (inr (inr (inl (w.in-60.is, w.base-is)))))))))))))))
-    | in-62 w ↦ inr (inr (inr (inr (inr (inr (inr (inr (inr (inr (inr (inr (inr (inr (inr (inl (w.in-62.is, w.base-is))))))))))))))))
+      | in-0 w ↦ inl (w.in-0.is, w.base-is)
+      | in-1 w ↦ inr (inl (w.in-1.is, w.base-is))
+      | in-2 w ↦ inr (inr (inl (w.in-2.is, w.base-is)))
+      | in-3 w ↦ inr (inr (inr (inl (w.in-3.is, w.base-is))))
+      | in-4 w ↦ inr (inr (inr (inr (inl (w.in-4.is, w.base-is)))))
+      | in-5 w ↦ inr (inr (inr (inr (inr (inl (w.in-5.is, w.base-is))))))
+      | in-6 w ↦ inr (inr (inr (inr (inr (inr (inl (w.in-6.is, w.base-is)))))))
+      | in-7 w ↦ inr (inr (inr (inr (inr (inr (inr (inl (w.in-7.is, w.base-is))))))))
+      | in-13 w ↦ inr (inr (inr (inr (inr (inr (inr (inr (inl (w.in-13.is, w.base-is)))))))))
+      | in-32 w ↦ inr (inr (inr (inr (inr (inr (inr (inr (inr (inl (w.in-32.is, w.base-is))))))))))
+      | in-33 w ↦ inr (inr (inr (inr (inr (inr (inr (inr (inr (inr (inl (w.in-33.is, w.base-is)))))))))))
+      | in-36 w ↦ inr (inr (inr (inr (inr (inr (inr (inr (inr (inr (inr (inl (w.in-36.is, w.base-is))))))))))))
+      | in-37 w ↦ inr (inr (inr (inr (inr (inr (inr (inr (inr (inr (inr (inr (inl (w.in-37.is, w.base-is)))))))))))))
+      | in-50 w ↦ inr (inr (inr (inr (inr (inr (inr (inr (inr (inr (inr (inr (inr (inl (w.in-50.is, w.base-is))))))))))))))
+      | in-60 w ↦ inr (inr (inr (inr (inr (inr (inr (inr (inr (inr (inr (inr (inr (inr (inl (w.in-60.is, w.base-is)))))))))))))))
+      | in-62 w ↦ inr (inr (inr (inr (inr (inr (inr (inr (inr (inr (inr (inr (inr (inr (inr (inl (w.in-62.is, w.base-is))))))))))))))))
     ]
 
 -- and the operands are known
@@ -60,4 +60,3 @@ returns-in-FdFs c = answer (goal.at.returns-in-FdFs c).Joined-funct _ c.in-FdFs.
 
 pub returns-in-FsFt : goal.returns-in-FsFt
 returns-in-FsFt c = answer (goal.at.returns-in-FsFt c).Joined-funct _ c.in-FsFt.is
-

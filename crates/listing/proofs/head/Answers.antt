@@ -6,4 +6,3 @@ pub returns : goal.returns
 returns c =
     let a = c.args in
     rw (head_is a.file.now a.n _ c.words.ensures) at c.put_counts.ensures
-

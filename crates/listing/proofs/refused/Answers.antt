@@ -17,4 +17,3 @@ returns c =
     let w = line_ended (omega arith) c.put_number-end.ensures c.put1.ensures in
     let p = rw (front w ∙ refused_is f _ c.check.ensures) at c.put_whole.ensures in
     record { size_is = p.value; left = p.dst_after }
-

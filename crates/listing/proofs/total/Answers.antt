@@ -6,4 +6,3 @@ pub returns : goal.returns
 returns c =
     let f = c.args.file.now in
     rw (total_is f _ _ c.count_all-c.ensures) at c.put_counts.ensures
-

@@ -20,11 +20,11 @@ ended c =
     let line = word_line plain a.v a.body.now in
     let words = c.count-words.result in
     elim c.loop-k-test.branch [
-      else-loop-k-test w ↦ rw w.out-is (all line a.n a.place words a.out.now l.out l.k l.at l.invariant w.loop-k-test.false)
-    | then-loop-k-test+then-size-eq0 w ↦ rw w.out-is
-        (stopped line a.n a.place words a.out.now l.out l.k l.at l.invariant w.loop-k-test.true w.put_line-size.result
-        w.put_line-size.new.out w.put_line-size.ensures.value w.put_line-size.ensures.out_after
-        (line_some plain a.v a.body.now l.k) w.if-size-eq0.true)
+      | else-loop-k-test w ↦ rw w.out-is (all line a.n a.place words a.out.now l.out l.k l.at l.invariant w.loop-k-test.false)
+      | then-loop-k-test+then-size-eq0 w ↦ rw w.out-is
+          (stopped line a.n a.place words a.out.now l.out l.k l.at l.invariant w.loop-k-test.true w.put_line-size.result
+          w.put_line-size.new.out w.put_line-size.ensures.value w.put_line-size.ensures.out_after
+          (line_some plain a.v a.body.now l.k) w.if-size-eq0.true)
     ]
 
 pub loop-k-init : goal.loop-k-init

@@ -45,16 +45,16 @@ joined j =
     let e : r - 1 + 1 ≡ r = omega arith in
     let minus = stored (45 ∷ []) b (r - 1) (omega arith) ∙ ap (λ (l : List ℕ). 45 ∷ l) (ap (λ (m : ℕ). drop m b) e ∙ numeral j) in
     elim j.if-x-lt0.branch [
-      then-x-lt0 t ↦ rw (t.start-is, t.b-is) (record {
-          low = omega arith;
-          long = simp length-set j.spell-start.ensures.2;
-          text = minus ∙ with-sign j.args.x (rw (to_z-of_z j.ranges.x) at t.if-x-lt0.true);
-        })
-    | else-x-lt0 t ↦ rw (t.start-is, t.b-is) (record {
-          low = j.spell-start.ensures.1;
-          long = j.spell-start.ensures.2;
-          text = numeral j ∙ without j.args.x (rw (to_z-of_z j.ranges.x) at t.if-x-lt0.false);
-        })
+      | then-x-lt0 t ↦ rw (t.start-is, t.b-is) (record {
+        low = omega arith;
+        long = simp length-set j.spell-start.ensures.2;
+        text = minus ∙ with-sign j.args.x (rw (to_z-of_z j.ranges.x) at t.if-x-lt0.true);
+      })
+      | else-x-lt0 t ↦ rw (t.start-is, t.b-is) (record {
+        low = j.spell-start.ensures.1;
+        long = j.spell-start.ensures.2;
+        text = numeral j ∙ without j.args.x (rw (to_z-of_z j.ranges.x) at t.if-x-lt0.false);
+      })
     ]
 
 pub returns-clause-value : goal.returns-clause-value
