@@ -52,7 +52,7 @@ class Edit:
         """The theorems that it makes false, each as crate and name."""
         return [(words[0], name) for words in map(str.split, self.values("theorem")) for name in words[1:]]
 
-    def is_wrong_alone(self):
+    def is_of_code_alone(self):
         return {key for key, _ in self.head} == {"wrong"}
 
 

@@ -5,8 +5,7 @@
   have the same name.
 - Each public function has two wrong answers or more. Each of document 01's slips and attacks, and each theorem that has
   edits, has one that the gate tries.
-- The gate tries every edit of a definition or a theorem, that is of a file in specs/, and at most two others of a crate
-  that are nothing but wrong answers of its functions.
+- The gate tries at most two edits of a crate that are nothing but wrong answers of its functions.
 """
 import collections
 import re
@@ -16,8 +15,7 @@ from edits import ATTACKS, KEYS, SLIPS
 
 FEWEST_WRONG = 2
 MOST_OF_CODE_IN_GATE = 2
-CODE, SPECS = "src/", "specs/"
-CHANGEABLE = (CODE, SPECS)
+CHANGEABLE = ("src/", "specs/")
 
 
 def wrong_with_edits(root, edits, public):
@@ -100,13 +98,7 @@ def wrong_with_gate(edits):
     tried = {theorem for edit in in_gate for theorem in edit.theorems()}
     for crate, name in sorted({theorem for edit in edits for theorem in edit.theorems()} - tried):
         yield f"the gate tries no edit of the theorem {name} of crate {crate}"
-    yield from (f"the gate does not try {edit.name}, which edits specs/" for edit in edits
-                if is_of_specs(edit) and not edit.in_gate)
-    of_code = collections.Counter(edit.crate for edit in in_gate if edit.is_wrong_alone() and not is_of_specs(edit))
+    of_code = collections.Counter(edit.crate for edit in in_gate if edit.is_of_code_alone())
     for crate, number in of_code.items():
         if number > MOST_OF_CODE_IN_GATE:
             yield f"crates/{crate}/must-fail: {number} edits are only `wrong:`, not {MOST_OF_CODE_IN_GATE} at most"
-
-
-def is_of_specs(edit):
-    return any(file.startswith(SPECS) for file, _ in edit.changes)
