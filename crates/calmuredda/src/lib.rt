@@ -23,14 +23,7 @@ const NUMBERS: u64 = 0x1_0000_0000;
 
 // Decodes the word in the first four bytes, and packs what that gives into the first 80 bytes of `record`. Answers with
 // the number.
-#[unsafe(no_mangle)]
-pub extern "C" fn calmuredda_decode(
-    bytes: &[u8],
-    va: u64,
-    big: u8,
-    wide: u8,
-    record: &mut [u8],
-) -> u8
+pub fn calmuredda_decode(bytes: &[u8], va: u64, big: u8, wide: u8, record: &mut [u8]) -> u8
     ensures value { result ≡ pack_number (decoded_for bytes.now va big wide) (length «record».old) }
     ensures record_after { «record».new ≡ packed (decoded_for bytes.now va big wide) «record».old }
 {
@@ -39,8 +32,7 @@ pub extern "C" fn calmuredda_decode(
 
 // The smallest word whose record at this address and flag is the one in the first 80 bytes, below the number: 16 for
 // fewer bytes, 9 if no word has it.
-#[unsafe(no_mangle)]
-pub extern "C" fn calmuredda_encode(record: &[u8], va: u64, wide: u8) -> u64
+pub fn calmuredda_encode(record: &[u8], va: u64, wide: u8) -> u64
     ensures { EncodesRecord «record».now va (on wide) result }
 {
     let d = record::unpack(record);
@@ -62,8 +54,7 @@ fn both(number: u8, word: u32) -> u64
 
 // The line of the reading whose record is in the first 80 bytes, to the start of `out`. Answers with the number: 16 for
 // fewer bytes, 9 if they are not the record of any reading, 10, 11; `written` is how many bytes the line has.
-#[unsafe(no_mangle)]
-pub extern "C" fn calmuredda_line(record: &[u8], out: &mut [u8], written: &mut usize) -> u8
+pub fn calmuredda_line(record: &[u8], out: &mut [u8], written: &mut usize) -> u8
     ensures value { result ≡ line_number «record».now (length out.old) }
     ensures written_after { written.new ≡ length (line_bytes «record».now (length out.old)) }
     ensures out_after { out.new ≡ over (line_bytes «record».now (length out.old)) out.old }
@@ -80,45 +71,35 @@ pub extern "C" fn calmuredda_line(record: &[u8], out: &mut [u8], written: &mut u
 }
 
 // 0 for a good section file; 12 or 13.
-#[unsafe(no_mangle)]
-pub extern "C" fn calmuredda_section_check(file: &[u8]) -> u8
+pub fn calmuredda_section_check(file: &[u8]) -> u8
     ensures { result ≡ checked file.now }
 {
     section::check(file)
 }
 
 // How many sections a good file has; 0 for another.
-#[unsafe(no_mangle)]
-pub extern "C" fn calmuredda_section_count(file: &[u8]) -> usize
+pub fn calmuredda_section_count(file: &[u8]) -> usize
     ensures { result ≡ count_of file.now }
 {
     section::count(file)
 }
 
 // The flags of a good file; 0 for another.
-#[unsafe(no_mangle)]
-pub extern "C" fn calmuredda_section_flags(file: &[u8]) -> u8
+pub fn calmuredda_section_flags(file: &[u8]) -> u8
     ensures { result ≡ flags_of file.now }
 {
     section::flags(file)
 }
 
 // The address of section n; 0 if it is refused.
-#[unsafe(no_mangle)]
-pub extern "C" fn calmuredda_section_address(file: &[u8], n: usize) -> u64
+pub fn calmuredda_section_address(file: &[u8], n: usize) -> u64
     ensures { result ≡ address_of file.now n }
 {
     section::address(file, n)
 }
 
 // 0 and which part of the file is the body of section n; or 12, 13 or 14, and the empty part at the file's start.
-#[unsafe(no_mangle)]
-pub extern "C" fn calmuredda_section_body(
-    file: &[u8],
-    n: usize,
-    offset: &mut usize,
-    size: &mut usize,
-) -> u8
+pub fn calmuredda_section_body(file: &[u8], n: usize, offset: &mut usize, size: &mut usize) -> u8
     ensures value { result ≡ refusal_of file.now n }
     ensures offset_after { offset.new ≡ start_of file.now n }
     ensures size_after { size.new ≡ length_of file.now n }
@@ -129,8 +110,7 @@ pub extern "C" fn calmuredda_section_body(
 }
 
 // The block of a body from word `index` on: 0, or 15; `kind` is how it ends, `words` how many words it has.
-#[unsafe(no_mangle)]
-pub extern "C" fn calmuredda_block(
+pub fn calmuredda_block(
     body: &[u8],
     va: u64,
     flags: u8,
@@ -150,8 +130,7 @@ pub extern "C" fn calmuredda_block(
 
 // The page of a body from word `index` on, into `out` from `place` on: 0, 15 or 11; `words` is how many words it has,
 // `bytes` how many bytes.
-#[unsafe(no_mangle)]
-pub extern "C" fn calmuredda_page(
+pub fn calmuredda_page(
     body: &[u8],
     va: u64,
     flags: u8,
@@ -178,8 +157,7 @@ pub extern "C" fn calmuredda_page(
 
 // The listing of a section file from line `line` of section `section` on, as many whole lines of that section as fit in
 // `out`: 0 or 11; `bytes` is how many bytes they have, `next_section` and `next_line` are where the listing goes on.
-#[unsafe(no_mangle)]
-pub extern "C" fn calmuredda_listing(
+pub fn calmuredda_listing(
     file: &[u8],
     section: usize,
     line: usize,
