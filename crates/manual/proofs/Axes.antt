@@ -2,7 +2,7 @@
 -- acceptance table and an exception ask on each axis; and that they ask just that.
 use Prim.Native.Nat.{ℕ, ◌<◌}
 use mathlib.Core.Path.{◌≡◌, refl, ◌∙◌, ap, ap₂, fun_ext}
-use mathlib.Core.Bool.{Bool, true, false, not, cond, ◌&&◌, and_true, and_assoc}
+use mathlib.Core.Bool.{Bool, true, false, not, cond, ◌&&◌, and-true, and_assoc}
 use mathlib.Core.List.{List, [], ◌∷◌}
 use mathlib.Core.Option.{none, some}
 use native.Mathlib.Omega.{arith}
@@ -59,7 +59,7 @@ pub by_parts : {A : Type 0} (ask : A → Axis → Guard) (a : A) (f : Fields) �
 unfolding passing four
 by_parts ask a f =
     rest (p (at op)) (p (at funct)) (p (at rs)) (p (at rt)) (p (at rd)) (p (at sa)) _
-    ∙ ap₂ ◌&&◌ (in_order (λ x. p (at x))) (ap (λ (b : Bool). p (pair rs_is_rd) && (p (pair rt_is_rd) && (p (pair inside) && b))) (and_true (p (pair ordered))))
+    ∙ ap₂ ◌&&◌ (in_order (λ x. p (at x))) (ap (λ (b : Bool). p (pair rs_is_rd) && (p (pair rt_is_rd) && (p (pair inside) && b))) (and-true (p (pair ordered))))
   where
     p : Axis → Bool
     p x = passes (ask a x) (coord f x)
@@ -82,7 +82,7 @@ ask_box b (at x) = b x
 ask_box b (pair ρ) = none
 
 pub box_passing : (b : Box) (f : Fields) → passing ask_box axes b (coord f) ≡ within b f
-box_passing b f = by_parts ask_box b f ∙ (ap (λ (t : Bool). within b f && t) four_true ∙ and_true (within b f))
+box_passing b f = by_parts ask_box b f ∙ (ap (λ (t : Bool). within b f && t) four_true ∙ and-true (within b f))
 
 -- ── claims ──
 
@@ -100,9 +100,9 @@ ask_claims (c ∷ cs) ρ = both (ask_claim c ρ) (ask_claims cs ρ)
 -- a test at one relation is that test
 only_four : (σ : Relation) (p : ℕ → Bool) (f : Fields) → four (λ ρ. passes (cond (same_relation σ ρ) (some p) none) (bit (related ρ f))) ≡ p (bit (related σ f))
 unfolding four
-only_four rs_is_rd p f = and_true (p (bit (related rs_is_rd f)))
-only_four rt_is_rd p f = and_true (p (bit (related rt_is_rd f)))
-only_four inside p f = and_true (p (bit (related inside f)))
+only_four rs_is_rd p f = and-true (p (bit (related rs_is_rd f)))
+only_four rt_is_rd p f = and-true (p (bit (related rt_is_rd f)))
+only_four inside p f = and-true (p (bit (related inside f)))
 only_four ordered p f = refl
 
 claim_passing : (c : Claim) (f : Fields) → four (λ ρ. passes (ask_claim c ρ) (bit (related ρ f))) ≡ true_of c f

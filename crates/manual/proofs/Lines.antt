@@ -1,7 +1,7 @@
 -- A word that a page defines has a line: one of the page's Format lines is for it.
 use Prim.Native.Nat.{ℕ}
 use mathlib.Core.Path.{◌≡◌, refl, sym, ◌∙◌, ap, ap₂, subst}
-use mathlib.Core.Bool.{Bool, true, false, not, cond, ◌&&◌, ◌||◌, and_true, or_assoc, or-not_self}
+use mathlib.Core.Bool.{Bool, true, false, not, cond, ◌&&◌, ◌||◌, and-true, or_assoc, or-not_self}
 use mathlib.Core.List.{List, [], ◌∷◌, ◌++◌, map}
 use mathlib.Core.Option.{Option, some}
 use lib.Dec.{T}
@@ -60,7 +60,7 @@ opposite_met : (ts us : List Test) (f : Fields) → T (opposite ts us) → (meet
 unfolding meets
 opposite_met [] us f h = absurd h
 opposite_met (t ∷ []) [] f h = absurd h
-opposite_met (t ∷ []) (u ∷ []) f h = ap₂ ◌||◌ (and_true (holds t f)) (and_true (holds u f)) ∙ opposed_met t u f h
+opposite_met (t ∷ []) (u ∷ []) f h = ap₂ ◌||◌ (and-true (holds t f)) (and-true (holds u f)) ∙ opposed_met t u f h
 opposite_met (t ∷ []) (u ∷ v ∷ us) f h = absurd h
 opposite_met (t ∷ s ∷ ts) us f h = absurd h
 
@@ -156,7 +156,7 @@ lines_found (p ∷ ps) f t =
     formats : found (first_line (map (format_line p) p.formats) f) ≡ defines p f
     formats =
         format_found p.formats p f
-        ∙ (ap (λ (b : Bool). defines p f && b) (closed_met p.formats f (and_l (closed p.formats) (all_closed ps) t)) ∙ and_true (defines p f))
+        ∙ (ap (λ (b : Bool). defines p f && b) (closed_met p.formats f (and_l (closed p.formats) (all_closed ps) t)) ∙ and-true (defines p f))
 
     rest : found (first_line (lines_of ps) f) ≡ any_defines ps f → found (first_line (map (format_line p) p.formats ++ lines_of ps) f) ≡ (defines p f || any_defines ps f)
     rest e = found_append (map (format_line p) p.formats) (lines_of ps) f ∙ ap₂ ◌||◌ formats e
