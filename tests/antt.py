@@ -37,8 +37,8 @@ TOKEN = re.compile(r'"[^"]*"|[(){};]|[^\s(){};"]+')
 # What stands between the parts of a list, and between the operands of a form.
 LIST_SIGNS = ("∷", "++", "▸")
 INFIX = {
-    "one-of": lambda field, values: ("one-of", field, values),
-    "none-of": lambda field, values: ("none-of", field, values),
+    "one_of": lambda field, values: ("one_of", field, values),
+    "none_of": lambda field, values: ("none_of", field, values),
     "to": lambda first, last: list(range(first, last + 1)),
     "gets": lambda field, value: (field, value),
     "+": operator.add,
@@ -121,9 +121,9 @@ Definition = collections.namedtuple("Definition", "clauses scope")
 # A type on one line, then lines that begin with the name, each with further lines that are set in.
 DEFINITION = re.compile(r"^(?:abbrev|unfoldable)(?: pub)? (\S+) : .*\n((?:\1 .*(?:\n(?:[ \t].*)?)*)+)", re.M)
 CLAUSE = re.compile(r"^\S+((?: \S+)*?) =\s+(.*(?:\n(?:[ \t].*)?)*)", re.M)
-USE = re.compile(r"^use Rattle·(\w+)(?:·specs)?\.specs\.(\w+)\.\{(.*)\}$", re.M)
+USE = re.compile(r"^use Rattle\.(?!std\.)(\w+)\.specs\.(\w+)\.\{(.*)\}$", re.M)
 # The refusal numbers are named as `numbers.special`; a mnemonic kind such as `kind.add` stays a name.
-USE_NUMBERS = re.compile(r"^use Rattle·(refusal)\.specs\.(Numbers) as (\w+)$", re.M)
+USE_NUMBERS = re.compile(r"^use Rattle\.(refusal)\.specs\.(Numbers) as (\w+)$", re.M)
 # Where one of these is a parameter, it is a value that the argument must have.
 CASES = ("true", "false")
 
@@ -217,5 +217,5 @@ def kinds_of(repository):
 
 
 def mnemonic(kind):
-    """A kind's mnemonic: a point in it is a hyphen in the kind."""
-    return kind.removeprefix("kind.").replace("-", ".")
+    """A kind's mnemonic: a point in it is an underscore in the kind."""
+    return kind.removeprefix("kind.").replace("_", ".")

@@ -3,8 +3,8 @@ tests/wrong_answers."""
 import collections
 import re
 
-# A crate of crates.txt, the comment above it, and the crates that it lists.
-Crate = collections.namedtuple("Crate", "name says lists")
+# A crate of crates.txt, the comment above it, the crates that it lists, and whether it is a static library.
+Crate = collections.namedtuple("Crate", "name says lists is_static")
 # `seen` is "pub ", "pub(crate) " or "", and `contract` what is between the name and the body.
 Function = collections.namedtuple("Function", "path seen name contract")
 
@@ -24,14 +24,24 @@ def crates_of(root):
         code, _, remark = line.partition("#")
         if code.strip():
             name, lists = code.split(":")
-            found.append(Crate(name.strip(), " ".join(comment), set(lists.split())))
+            name, *kind = name.split()
+            found.append(Crate(name, " ".join(comment), set(lists.split()), "staticlib" in kind))
         comment = [*comment, remark.strip()] if remark and not code.strip() else []
     return found
 
 
 def libraries(root):
-    """The names of the crates that are libraries, in the order of crates.txt."""
-    return [crate.name for crate in crates_of(root) if (root / "crates" / crate.name / "src/lib.rt").exists()]
+    """The names of the crates that other crates can use, in the order of crates.txt."""
+    return [
+        crate.name
+        for crate in crates_of(root)
+        if not crate.is_static and (root / "crates" / crate.name / "src/lib.rt").exists()
+    ]
+
+
+def static_libraries(root):
+    """The names of the crates that C can link."""
+    return [crate.name for crate in crates_of(root) if crate.is_static]
 
 
 def public_files(root, crate):

@@ -190,7 +190,18 @@ have_rustc() {
 # has run before.
 need_program() {
     [ -x "$1" ] && return 0
-    missing "target/bin/${1##*/} is missing; \`rt check ${1##*/}\` builds it"
+    missing "${1##*/} is not built; \`rt run\` in crates/${1##*/} proves and builds it"
+}
+
+# built_program ROOT PROGRAM: where `rt run` and `rt ci` put the program in the project ROOT.
+built_program() {
+    echo "$1/crates/$2/out/$2"
+}
+
+# build_program ROOT PROGRAM LOG: proves and builds it. `rt run` also runs it once, here with nothing to read; what it
+# writes goes to LOG beside what `rt` says.
+build_program() {
+    (cd "$1/crates/$2" && rt run </dev/null) >"$3" 2>&1 9<&-
 }
 
 # Where the package libc6-amd64-cross puts the C library of x86-64.
@@ -214,9 +225,10 @@ run_x86() {
     fi
 }
 
-# library_sources ROOT: everything that the result of `rt staticlib calmuredda` depends on.
+# library_sources ROOT: everything that the result of tools/archive depends on.
 library_sources() {
-    (cd "$1" && rt version && find crates.txt crates -type f -exec sha256sum {} + | LC_ALL=C sort)
+    (cd "$1" && rt version &&
+        find crates.txt crates -name out -prune -o -type f -exec sha256sum {} + | LC_ALL=C sort)
 }
 
 # need_archive ROOT FOLDER: the library for C, proved and built by `rt` in the project ROOT, as $archive. What `rt` says
@@ -230,7 +242,7 @@ need_archive() {
     # Even where nothing has changed `rt` takes some twenty seconds.
     of=$(library_sources "$1" | digest)
     if ! is_made_of "$archive" "$of"; then
-        (cd "$1" && rt staticlib calmuredda) >"$2/staticlib.txt" 2>&1 9<&- ||
+        "$1/tools/archive" >"$2/staticlib.txt" 2>&1 9<&- ||
             failed "the library is not proved; see $2/staticlib.txt"
         note_made "$archive" "$of"
     fi

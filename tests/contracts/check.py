@@ -5,6 +5,7 @@
 
 - Each public function of a library has an `ensures` and no `requires`, and a theorem in crates/contracts/specs that its
   contract fixes its answer. (The prover shows that the theorem is true; the check shows that no function is forgotten.)
+- A function that a static library exports promises what the library's function of that name does, in the same words.
 - No public contract, and no file of specs/ outside specs/Private, uses what is in specs/Private; and no contract and no
   file of specs/ uses what is in proofs/. (The modules that the toolchain makes of a contract may be named:
   crates/contracts/specs speaks of them.)
@@ -19,20 +20,31 @@ from pathlib import Path
 
 sys.path.append(str(Path(__file__).resolve().parents[1]))
 
-from crates import PUBLIC, crates_of, functions_in, libraries, public_files, public_functions, text_of  # noqa: E402
+from crates import (  # noqa: E402
+    PUBLIC,
+    crates_of,
+    functions_in,
+    libraries,
+    public_files,
+    public_functions,
+    static_libraries,
+    text_of,
+)
 from edit_rules import FEWEST_WRONG, wrong_with_edits  # noqa: E402
 from edits import edits_of  # noqa: E402
 
+# A clause may have a name.
+REQUIRES = re.compile(r"\brequires\*? (?:\w+ )?\{")
+ENSURES = re.compile(r"\bensures (?:\w+ )?\{")
 PRIVATE_USE = re.compile(r"^ghost use \S+\.specs\.Private\.[\w.]+\.\{(.*?)\};$", re.M)
-PROOFS_USE = re.compile(r"^(?:ghost )?use (Rattle·\S+?\.proofs\.[^\s{;]+)", re.M)
+# The kit's own library has words in its proofs/ too.
+PROOFS_USE = re.compile(r"^(?:ghost )?use (Rattle\.(?!std\.)\S+?\.proofs\.[^\s{;]+)", re.M)
 # What the toolchain makes of a function's contract and of a declared type.
 OF_CONTRACT = re.compile(r"\.(?:Reads|Kinds|Statement)$|\.declared\.")
-WORD_OF_ANTT = re.compile(r"[^\s(){},.;⌜⌝]+")
+WORD_OF_ANTT = re.compile(r"[^\s(){},.;]+")
 COMMENT_OF_CODE = re.compile(r"//.*")
 CRATE_IN_CODE = re.compile(r"(?<![\w:])(\w+)::")
-CRATE_IN_USE = re.compile(r"Rattle·(\w+)")
-# Listed beside the kit's library that needs it, though no file names it.
-NEEDED_UNNAMED = {"libc"}
+CRATE_IN_USE = re.compile(r"Rattle\.(\w+)")
 
 
 def joined(paths):
@@ -44,9 +56,9 @@ def joined(paths):
 
 def wrong_with_contract(crate, function):
     name = f"{crate}::{function.name}"
-    if "requires {" in function.contract:
+    if REQUIRES.search(function.contract):
         yield f"{name} asks something of its caller"
-    if "ensures {" not in function.contract:
+    if not ENSURES.search(function.contract):
         yield f"{name} says nothing of its answer"
     private = {n.strip() for names in PRIVATE_USE.findall(text_of(function.path)) for n in names.split(",")}
     for used in sorted(private & set(WORD_OF_ANTT.findall(function.contract))):
@@ -57,7 +69,7 @@ def wrong_with_theorem(root, crate, function):
     """The crate's file in crates/contracts/specs has a field for the function, over the function's own contract."""
     path = root / "crates/contracts/specs" / f"{crate.capitalize()}.antt"
     text = text_of(path) if path.exists() else ""
-    use = rf"^use Rattle·{crate}\.proofs\.{function.name}\.%s as (\S+)$"
+    use = rf"^use Rattle\.{crate}\.proofs\.{function.name}\.%s as (\S+)$"
     aliases = [re.search(use % part, text, re.M) for part in ("Kinds", "Reads")]
     if not all(aliases):
         yield f"{crate}::{function.name} is not in crates/contracts/specs"
@@ -66,6 +78,23 @@ def wrong_with_theorem(root, crate, function):
     field = rf"^  pub \S+ : Exact(?:To)? {kinds}\.ps {kinds}\.r (?:\(.*\) )?{reads}\.Asked {reads}\.Learnt$"
     if not re.search(field, text, re.M):
         yield f"{crate}::{function.name} has no theorem in {path.name}"
+
+
+def in_one_line(contract):
+    """Parameters stand in one line or in several, with a comma after the last."""
+    return re.sub(r"(?<=\() | (?=\))|,(?= \))", "", " ".join(contract.split()))
+
+
+def wrong_with_exports(root, crate):
+    """Each function that a static library exports promises, word for word, what the library's of that name does."""
+    library = crate.removesuffix("_c")
+    inner = {function.name: function.contract for function in public_functions(root, library)}
+    exports = {function.name: function.contract for function in public_functions(root, crate)}
+    for name in sorted(inner.keys() ^ exports.keys()):
+        yield f"{name} is public in only one of the crates {library} and {crate}"
+    for name in sorted(inner.keys() & exports.keys()):
+        if in_one_line(inner[name]) != in_one_line(exports[name]):
+            yield f"{crate}::{name} does not promise what {library}::{name} does"
 
 
 def wrong_with_library(root, crate):
@@ -96,7 +125,7 @@ def wrong_with_uses(root):
 
 
 def named_by(root, crate):
-    """What looks like a crate in a crate's files: `word::rs` in code, `Rattle·word.specs` in an import."""
+    """What looks like a crate in a crate's files: `word::rs` in code, `Rattle.word.specs` in an import."""
     folder = root / "crates" / crate
     sources = list(folder.glob("src/**/*.rt"))
     code = COMMENT_OF_CODE.sub("", joined(sources))
@@ -109,7 +138,7 @@ def wrong_with_lists(root):
     crates = crates_of(root)
     known = {crate.name for crate in crates}.union(*(crate.lists for crate in crates))
     for crate in crates:
-        named = named_by(root, crate.name) & known - {crate.name} | crate.lists & NEEDED_UNNAMED
+        named = named_by(root, crate.name) & known - {crate.name}
         for name in sorted(crate.lists - named):
             yield f"crates.txt: {crate.name} lists {name} and does not name it"
         for name in sorted(named - crate.lists):
@@ -122,6 +151,7 @@ def main():
     public = [f"{crate}::{function.name}" for crate in crates for function in public_functions(root, crate)]
     edits = edits_of(root)
     wrong = [line for crate in crates for line in wrong_with_library(root, crate)]
+    wrong += [line for crate in static_libraries(root) for line in wrong_with_exports(root, crate)]
     wrong += [*wrong_with_uses(root), *wrong_with_lists(root), *wrong_with_edits(root, edits, public)]
     if wrong:
         sys.exit("\n".join(wrong))

@@ -21,7 +21,7 @@ OPS = 64
 MASK64 = 2**64 - 1
 KINDS = {"Reg": 1, "FReg": 2, "Imm": 3, "Mem": 4, "Addr": 5, "Cop0": 6}
 FLOWS = {"plain": 0, "call": 1, "jump": 2, "branch": 3, "return": 4, "interrupt": 5}
-MARKED = ("call", "jump", "branch", "byRegister")
+MARKED = ("call", "jump", "branch", "by_register")
 RET, JUMP, RA = 4, 2, 31
 
 
@@ -36,7 +36,7 @@ def rows_by_op(rows):
 def refusal(refusals, f):
     """The number of the first entry that refuses the word; 0 if none does."""
     for entry in refusals:
-        if all((f[x] in values) == (sign == "one-of") for sign, x, values in entry["tests"]):
+        if all((f[x] in values) == (sign == "one_of") for sign, x, values in entry["tests"]):
             return entry["number"]
     return 0
 
@@ -86,7 +86,7 @@ def operand(code, va, word, f):
 def operands(form, va, word, f):
     *codes, last = form if isinstance(form, list) else [form]
     found = [operand(code, va, word, f) for code in codes]
-    if last == "posSize":
+    if last == "pos_size":
         found += [("Imm", 0, f["sa"]), ("Imm", 0, f["rd"] - f["sa"] + 1)]
     if last == "link":
         found += [("Reg", f["rd"], 0)] * (f["rd"] != RA) + [("Reg", f["rs"], 0)]
@@ -106,7 +106,7 @@ def effect(change, os):
         return 2, registers[0], registers[1], 0, values[2]
     if name == "sets":
         return 2, registers[0], 0, 0, values[1]
-    if name == "setsUpper":
+    if name == "sets_upper":
         return 1, registers[0], 0, 0, signed(values[1]) << 16
     first = registers[0] if name == "memory" else 0
     return 3, first, registers[1], size[0], values[1]

@@ -46,14 +46,14 @@ BOOKS = {"MIPS32": (False, True), "MIPS64": (True,)}
 # Otherwise an entry that is lost both from the specs and from the document would go unnoticed.
 ENTRIES = 75
 # The lists of the specs, in the order of the document's lists; no page defines the words of the last.
-LISTS = ("refusedWords", "otherReadings", "reservedWords")
+LISTS = ("refused_words", "other_readings", "reserved_words")
 # The entry whose mnemonics have neither a page nor an alias.
-WITHOUT_PAGE = "reserved-format"
+WITHOUT_PAGE = "reserved_format"
 # The entry that depends on the address, and the example that crates/manual/specs/Tight.antt has for it.
-PAST_PC = "target-past-pc"
+PAST_PC = "target_past_pc"
 PAST_WORD, PAST_ADDRESS = 0x04000000, 0xFFFFFFFC
 # The entry of the last list whose words are other instructions of a manual.
-WITHOUT_FLAG = "mips64-without-flag"
+WITHOUT_FLAG = "mips64_without_flag"
 
 # This many words for each entry and flag, if this many draws bring up as many: of a small entry every word is drawn.
 WORDS_EACH = 400
@@ -96,7 +96,7 @@ class Words:
         self.flags = flags
         self.allowed = {x: range(ROOM[x]) for x in FIELDS}
         for sign, x, values in tests:
-            self.allowed[x] = [v for v in self.allowed[x] if (v in values) == (sign == "one-of")]
+            self.allowed[x] = [v for v in self.allowed[x] if (v in values) == (sign == "one_of")]
         tied = set().union(*(relations.fields(relation) for _, relation in claims))
         self.tied = [x for x in FIELDS if x in tied]
         together = itertools.product(*(self.allowed[x] for x in self.tied))
@@ -410,7 +410,7 @@ def check_swaps(repository, oracle, pages):
         demand(swap and row, "swaps", f"{len(swaps)} in the specs, {len(listed)} in {PATCHING}")
         word, wide = swap["example"]["word"], swap["example"]["wide"] == "true"
         back = word_of({**fields_of(word), **dict(swap["back"])})
-        names = (swap["swapped"], swap["page"], swap["read-as"], swap["range"].replace("-", " ", 1))
+        names = (swap["swapped"], swap["page"], swap["read_as"], swap["range"].replace("_", " ", 1))
         ours = (*names, f"{word:08x}", "on" if wide else None, f"{back:08x}")
         demand(ours == row, swap["swapped"], f"{row} in {PATCHING}, {ours} in the specs")
         demand(pages.names(word, wide)[:1] == [swap["page"]], swap["swapped"], f"0x{word:08x} is not on its page")
@@ -431,7 +431,7 @@ def column_test(field, column):
         "over": lambda name, k, v: lambda a: a % 2**k == v,
         "under": lambda v, k, name: lambda a: a // 2**k == v,
     }
-    return "one-of", field, list(filter(tests[sign](*parts), range(ROOM[field])))
+    return "one_of", field, list(filter(tests[sign](*parts), range(ROOM[field])))
 
 
 def pages_of(repository):

@@ -40,9 +40,9 @@ def size_is(test):
 
 RULES = (
     Rule("link-register-tested", "Rs", always, REFUSED, "the source register must not be $31", "rs is 31"),
-    Rule("same-register", "rs-is-rd", operands_are(2), REFUSED, "source and destination must be different", "rs is rd"),
+    Rule("same-register", "rs_is_rd", operands_are(2), REFUSED, "source and destination must be different", "rs is rd"),
     Rule(
-        "same-register-implied", "rs-is-rd", operands_are(1), REFUSED, "a destination register must be supplied",
+        "same-register-implied", "rs_is_rd", operands_are(1), REFUSED, "a destination register must be supplied",
         "rs is rd, where the Format line leaves rd 31 out",
     ),
     Rule(
@@ -65,7 +65,7 @@ RULES = (
     Rule("no-control-register", "Fs", always, TAKEN, None, "a control register: any number is taken"),
     Rule("no-hardware-register", "Rd", always, TAKEN, None, "a hardware register: any number is taken"),
     # what it cannot be asked
-    Rule("two-targets", "rt-is-rd", always, OTHER, None, "rt is not rd: there is one operand for both"),
+    Rule("two-targets", "rt_is_rd", always, OTHER, None, "rt is not rd: there is one operand for both"),
     Rule("other-hint", "Hint", always, OTHER, None, "another hint: there is no operand for it"),
 )
 

@@ -61,7 +61,7 @@ def place(word, column):
 
 def tests_of(tests):
     """Each test as (column, is it `in`?, numbers)."""
-    return [(column, sign == "one-of", set(values)) for sign, column, values in tests]
+    return [(column, sign == "one_of", set(values)) for sign, column, values in tests]
 
 
 def meets(tests, word):
@@ -69,8 +69,8 @@ def meets(tests, word):
 
 
 RELATIONS = {
-    "rs-is-rd": lambda rs, rt, rd, sa: rs == rd,
-    "rt-is-rd": lambda rs, rt, rd, sa: rt == rd,
+    "rs_is_rd": lambda rs, rt, rd, sa: rs == rd,
+    "rt_is_rd": lambda rs, rt, rd, sa: rt == rd,
     "inside": lambda rs, rt, rd, sa: sa + rd + 1 <= INSIDE_LIMIT,
     "ordered": lambda rs, rt, rd, sa: sa <= rd,
 }
@@ -161,10 +161,10 @@ def jump_target(address, index):
 
 # operands that are always made of the same fields
 BY_FIELDS = {
-    "offset-base": lambda page, word, address: ("mem", signed(page.field(word, "Offset")), page.field(word, "Base")),
-    "index-base": lambda page, word, address: ("indexed", page.field(word, "Index"), page.field(word, "Base")),
-    "pc-relative": lambda page, word, address: ("to", branch_target(address, page.field(word, "Offset"))),
-    "in-region": lambda page, word, address: ("to", jump_target(address, page.field(word, "InstrIndex"))),
+    "offset_base": lambda page, word, address: ("mem", signed(page.field(word, "Offset")), page.field(word, "Base")),
+    "index_base": lambda page, word, address: ("indexed", page.field(word, "Index"), page.field(word, "Base")),
+    "pc_relative": lambda page, word, address: ("to", branch_target(address, page.field(word, "Offset"))),
+    "in_region": lambda page, word, address: ("to", jump_target(address, page.field(word, "InstrIndex"))),
 }
 
 

@@ -27,7 +27,7 @@ DIRECTIVES = ("\t.set noreorder", "\t.set nomacro", "\t.set noat")
 Part = collections.namedtuple("Part", "name columns kept")
 
 # the columns that a relation is about
-RELATED = {"rs-is-rd": ("rs", "rd"), "rt-is-rd": ("rt", "rd"), "inside": ("rd", "sa"), "ordered": ("rd", "sa")}
+RELATED = {"rs_is_rd": ("rs", "rd"), "rt_is_rd": ("rt", "rd"), "inside": ("rd", "sa"), "ordered": ("rd", "sa")}
 assert set(RELATED) == set(RELATIONS), "RELATED has other relations than pages.py"
 
 
@@ -101,7 +101,7 @@ def text_of(page, word):
     told = Reading(page.name, page.operands(word, ORIGIN))
     for rule in SPELLINGS_OF[page.name]:
         told = rule.rewrite(page, word, ORIGIN, told)
-    is_branch = ("pc-relative",) in page.args(word)
+    is_branch = ("pc_relative",) in page.args(word)
     return f"{told.name} {','.join(operand_text(part, is_branch) for part in told.operands)}".strip()
 
 
