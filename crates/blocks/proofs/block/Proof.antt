@@ -18,9 +18,8 @@ decreases-loop-k body v n words k₀ k = words - k
 returns-then-words-n : tie.Need-returns-then-words-n invariant-loop-k decreases-loop-k
 unfolding block_of
 returns-then-words-n c =
-    let past = c in
-    let a = past.args in
-    let h : words_in a.body.now ≤ a.n = omega (arith, past.count-words.ensures, past.if-words-n.true) in
+    let a = c.args in
+    let h : words_in a.body.now ≤ a.n = omega (arith, c.count-words.ensures, c.if-words-n.true) in
     rw (le-ltb a.n (words_in a.body.now) h) c.block_of.ensures
 
 loop-k-init : tie.Need-loop-k-init invariant-loop-k decreases-loop-k
@@ -30,23 +29,19 @@ loop-k-init c =
 
 -- where word k is looked at: there is one
 there : (c : tie.After-step-t invariant-loop-k decreases-loop-k) →
-    let loop = c in
-    loop.loop-k.k < words_in loop.args.body.now
+    c.loop-k.k < words_in c.args.body.now
 there c =
-    let loop = c in
-    omega (arith, loop.count-words.ensures, c.if-words-k.false)
+    omega (arith, c.count-words.ensures, c.if-words-k.false)
 
 overflow_add-k : tie.Need-overflow_add-k invariant-loop-k decreases-loop-k
 overflow_add-k c =
     let t = c.before in
-    let loop = t in
-    omega (arith, inside loop.loop-k.invariant (there t) t.step-t.ensures, loop.count-words.ensures)
+    omega (arith, inside t.loop-k.invariant (there t) t.step-t.ensures, t.count-words.ensures)
 
 loop-k-smaller : tie.Need-loop-k-smaller invariant-loop-k decreases-loop-k
 loop-k-smaller c =
     let t = c.before.before.before in
-    let loop = t in
-    omega (arith, one_word_more loop.loop-k.invariant (there t) t.step-t.ensures c.if-t-ne-GOES_ON.false, t.if-words-k.false)
+    omega (arith, one_word_more t.loop-k.invariant (there t) t.step-t.ensures c.if-t-ne-GOES_ON.false, t.if-words-k.false)
 
 loop-k-preserved : tie.Need-loop-k-preserved invariant-loop-k decreases-loop-k
 loop-k-preserved c =
@@ -55,9 +50,8 @@ loop-k-preserved c =
 
 returns-then-words-k : tie.Need-returns-then-words-k invariant-loop-k decreases-loop-k
 returns-then-words-k c =
-    let loop = c in
     c.block_of-then-words-k.ensures
-    ∙ ran_out loop.loop-k.invariant (omega (arith, loop.count-words.ensures, c.if-words-k.true))
+    ∙ ran_out c.loop-k.invariant (omega (arith, c.count-words.ensures, c.if-words-k.true))
 
 returns-then-t-ne-GOES_ON : tie.Need-returns-then-t-ne-GOES_ON invariant-loop-k decreases-loop-k
 returns-then-t-ne-GOES_ON c =

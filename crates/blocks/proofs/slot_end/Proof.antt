@@ -9,33 +9,28 @@ use Rattle.blocks.proofs.slot_end.Tie as tie
 
 returns-then-count-n : tie.Need-returns-then-count-n
 returns-then-count-n c =
-    let past = c in
-    let a = past.args in
+    let a = c.args in
     let b = a.body.now in
     c.block_of.ensures
-    ∙ sym (absent a.v b (words_in b - a.n) a.n (omega (arith, past.count.ensures, past.if-count-n.true)))
+    ∙ sym (absent a.v b (words_in b - a.n) a.n (omega (arith, c.count.ensures, c.if-count-n.true)))
 
 returns-then-d-eq0 : tie.Need-returns-then-d-eq0
 returns-then-d-eq0 c =
-    let slot = c.before.before.before in
-    let there = slot in
-    let a = there.args in
+    let a = c.args in
     let b = a.body.now in
     c.block_of-then-d-eq0.ensures
     ∙ sym (slot_taken a.v b (words_in b - a.n) a.n
-    (omega (arith, there.count.ensures, there.if-count-n.false))
-    (rw slot.decoded-d.ensures at c.if-d-eq0.true))
+    (omega (arith, c.count.ensures, c.if-count-n.false))
+    (rw c.decoded-d.ensures at c.if-d-eq0.true))
 
 returns : tie.Need-returns
 returns c =
-    let slot = c.before.before.before in
-    let there = slot in
-    let a = there.args in
+    let a = c.args in
     let b = a.body.now in
     c.block_of-2.ensures
     ∙ sym (slot_refused a.v b (words_in b - a.n) a.n
-    (omega (arith, there.count.ensures, there.if-count-n.false))
-    (rw slot.decoded-d.ensures at c.if-d-eq0.false))
+    (omega (arith, c.count.ensures, c.if-count-n.false))
+    (rw c.decoded-d.ensures at c.if-d-eq0.false))
 
 pub slot_end_spec : {M : Type 1} → statement M
 slot_end_spec = tie.close (tie.spec

@@ -13,12 +13,10 @@ use Rattle.blocks.proofs.step.Tie as tie
 
 returns-then-d-ne0 : tie.Need-returns-then-d-ne0
 returns-then-d-ne0 c =
-    let refuses = c.before in
-    let word = refuses.before.before in
-    let a = word.args in
+    let a = c.args in
     let b = a.body.now in
     c.block_of.ensures
-    ∙ sym (refused a.v b (words_in b - (a.n + 1)) a.n (rw word.decoded-d.ensures at refuses.if-d-ne0.true))
+    ∙ sym (refused a.v b (words_in b - (a.n + 1)) a.n (rw c.decoded-d.ensures at c.if-d-ne0.true))
 
 -- an accepted word, by what its reading does
 does : (c : tie.After-ends-e) {e : Ending} → c.ends-e.result ≡ e →
@@ -27,12 +25,10 @@ does : (c : tie.After-ends-e) {e : Ending} → c.ends-e.result ≡ e →
     let k = words_in b - (a.n + 1) in
     by_ending e (block 0 0 1) (slot_end a.v b k (a.n + 1)) (block 0 5 1) ≡ step_of a.v b k a.n
 does c g =
-    let accepts = c.before.before in
-    let word = accepts.before.before in
-    let a = word.args in
+    let a = c.args in
     let b = a.body.now in
-    let d = word.decoded-d.ensures in
-    sym (accepted a.v b (words_in b - (a.n + 1)) a.n (rw d at accepts.if-d-ne0.false)
+    let d = c.decoded-d.ensures in
+    sym (accepted a.v b (words_in b - (a.n + 1)) a.n (rw d at c.if-d-ne0.false)
     (sym (ap (λ (d : Decoded). ending_of d.insn) d) ∙ sym c.ends-e.ensures ∙ g))
 
 returns-in-On : tie.Need-returns-in-On

@@ -13,10 +13,9 @@ returns-then-count-n c =
 
 returns : tie.Need-returns
 returns c =
-    let inside = c in
-    let a = inside.args in
+    let a = c.args in
     let b = a.body.now in
-    let h : a.n < words_in b = omega (arith, inside.count.ensures, inside.if-count-n.false) in
+    let h : a.n < words_in b = omega (arith, c.count.ensures, c.if-count-n.false) in
     rw (there a.v b a.n h, four b a.n h) c.from_bytes.ensures
 
 pub word_spec : {M : Type 1} → statement M

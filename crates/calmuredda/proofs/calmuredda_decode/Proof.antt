@@ -8,8 +8,7 @@ use Rattle.calmuredda.proofs.calmuredda_decode.Tie as tie
 
 returns : tie.Need-returns
 returns c =
-    let s = c in
-    let l = s.args.«record».now in
+    let l = c.args.«record».now in
     let e = c.decode.ensures in
     (c.pack.ensures.0 ∙ ap (λ (d : Decoded). pack_number d (length l)) e, c.pack.ensures.1 ∙ ap (λ (d : Decoded). packed d l) e)
 

@@ -33,12 +33,11 @@ returns-then-d-ne0 c =
 
 returns : tie.Need-returns
 returns c =
-    let tested = c in
-    let a = tested.args in
+    let a = c.args in
     let l = a.«record».now in
     let d = a.out.now in
-    let u = tested.unpack-d.ensures in
-    let s = some l (length d) (sym (ap (λ (x : Decoded). x.number) u) ∙ tested.if-d-ne0.false) in
+    let u = c.unpack-d.ensures in
+    let s = some l (length d) (sym (ap (λ (x : Decoded). x.number) u) ∙ c.if-d-ne0.false) in
     let p = c.print-p.ensures in
     let e = p.0 ∙ ap (λ (x : Decoded). printed_of plain x.insn (length d)) u in (
       ap (λ (x : Printed). x.number) e ∙ sym s.0,

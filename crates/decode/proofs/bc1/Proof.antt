@@ -22,5 +22,5 @@ bc1_spec = tie.close (tie.spec
     (λ c wide. taken (op ≐ 17 ∷ rs ≐ 8 ∷ rt lowIs 0 ∷ []) (low-is _ c.requires c.rt-likely_and_true.ensures c.in-0.is) (λ va. refl))
     (λ c wide. taken (op ≐ 17 ∷ rs ≐ 8 ∷ rt lowIs 1 ∷ []) (low-is _ c.requires c.rt-likely_and_true.ensures c.in-1.is) (λ va. refl))
     (λ c wide. taken (op ≐ 17 ∷ rs ≐ 8 ∷ rt lowIs 2 ∷ []) (low-is _ c.requires c.rt-likely_and_true.ensures c.in-2.is) (λ va. refl))
-    (λ c wide. let s = c in taken (op ≐ 17 ∷ rs ≐ 8 ∷ rt low_is_none_of (2 ∷ 1 ∷ 0 ∷ []) ∷ [])
-    (s.requires.0, (s.requires.1, (rw (← c.rt-likely_and_true.ensures) c.in_default.in_default-own.rest, tt))) (λ va. refl)))
+    (λ c wide. taken (op ≐ 17 ∷ rs ≐ 8 ∷ rt low_is_none_of (2 ∷ 1 ∷ 0 ∷ []) ∷ [])
+    (c.requires.0, (c.requires.1, (rw (← c.rt-likely_and_true.ensures) c.in_default.in_default-own.rest, tt))) (λ va. refl)))

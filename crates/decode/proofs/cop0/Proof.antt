@@ -20,10 +20,7 @@ cop0_spec = tie.close (tie.spec
     (λ c κs. search rules) (λ c κs. search rules)
     (λ c wide. arm c.requires rs (sym c.rs-rs.ensures) c.in-0.is (λ va. refl))
     (λ c wide. arm c.requires rs (sym c.rs-rs.ensures) c.in-4.is (λ va. refl))
-    (λ c wide. let s = c in
-    arm_if s.requires rs (sym s.rs-rs.ensures) s.in-16.is funct c.funct-funct.ensures c.in-24.is (λ va. refl))
-    (λ c wide. let s = c in
-    arm_if s.requires rs (sym s.rs-rs.ensures) s.in-16.is funct c.funct-funct.ensures c.in-32.is (λ va. refl))
-    (λ c wide. let s = c in
-    arm_if_rest s.requires rs (sym s.rs-rs.ensures) s.in-16.is funct inner c.funct-funct.ensures c.in_default-funct.in_default-funct-own.rest refl tt)
+    (λ c wide. arm_if c.requires rs (sym c.rs-rs.ensures) c.in-16.is funct c.funct-funct.ensures c.in-24.is (λ va. refl))
+    (λ c wide. arm_if c.requires rs (sym c.rs-rs.ensures) c.in-16.is funct c.funct-funct.ensures c.in-32.is (λ va. refl))
+    (λ c wide. arm_if_rest c.requires rs (sym c.rs-rs.ensures) c.in-16.is funct inner c.funct-funct.ensures c.in_default-funct.in_default-funct-own.rest refl tt)
     (λ c wide. arm_rest c.requires rs (sym c.rs-rs.ensures) outer c.in_default.in_default-own.rest refl tt))

@@ -11,13 +11,11 @@ returns-then-bytes-lt4 c = c.refused.ensures ∙ too_short c.args.bytes.now _ _ 
 
 returns : tie.Need-returns
 returns c =
-    let b = c.before.before in
-    let i = b in
-    let a = i.args in
+    let a = c.args in
     c.read.ensures
     ∙ (c.shape_of.ensures.reads _
-    ∙ (ap (λ (w : ℕ). decoded_of w a.va a.bits64) b.from_bytes-w.ensures
-    ∙ first_four a.bytes.now a.va a.big_endian a.bits64 i.if-bytes-lt4.false))
+    ∙ (ap (λ (w : ℕ). decoded_of w a.va a.bits64) c.from_bytes-w.ensures
+    ∙ first_four a.bytes.now a.va a.big_endian a.bits64 c.if-bytes-lt4.false))
 
 pub decode_spec : {M : Type 1} → statement M
 decode_spec = tie.close (tie.spec

@@ -31,14 +31,13 @@ returns-in-44 c = arm c.requires.0 funct c.requires.1.0 c.in-44.is (λ va. refl)
 pub returns-then-bits64 : goal.returns-then-bits64
 unfolding row_by number_by meaning
 returns-then-bits64 c =
-    let s = c in
-    arm_if s.requires.0 funct s.requires.1.0 s.in-45.is rt c.rt.ensures c.if-rt-eq0.true
+    arm_if c.requires.0 funct c.requires.1.0 c.in-45.is rt c.rt.ensures c.if-rt-eq0.true
     (rw c.if-bits64.true (λ va. refl))
 
 pub returns-else-rt-eq0 : goal.returns-else-rt-eq0
 unfolding row_by number_by meaning
 returns-else-rt-eq0 c =
-    let s = c in daddu _ s.requires.0 (s.requires.1.0 ∙ s.in-45.is)
+    daddu _ c.requires.0 (c.requires.1.0 ∙ c.in-45.is)
     (⊎_elim (λ p. inl p.1) (λ p. inr (λ q. p (c.rt.ensures ∙ q))) c.else-rt-eq0.either)
 
 pub returns-in-46 : goal.returns-in-46

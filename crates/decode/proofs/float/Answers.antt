@@ -47,7 +47,7 @@ answer c ops e wide =
     rw e at (in_format a.f a.w wide c.requires.format c.match-funct.base k)
 
 pub returns-in_default : goal.returns-in_default
-returns-in_default c = λ wide. let s = c in in_no_format s.args.f s.args.w wide s.requires.format (unpicked c)
+returns-in_default c = λ wide. in_no_format c.args.f c.args.w wide c.requires.format (unpicked c)
 
 pub overflow_add-mnemonic : goal.overflow_add-mnemonic
 overflow_add-mnemonic c = omega (arith, low _ _ (picked c), c.requires.f_bound)

@@ -17,26 +17,17 @@ jump_or_branch_spec = tie.close (tie.spec
     (λ c κs. (c.requires.0, (subst (λ (k : ℕ). NoneOf k branches) (sym c.requires.0) c.in_default.in_default-own.rest, c.requires.1)))
     (λ c wide. op_arm c.requires.0 c.in-2.is (λ va. refl))
     (λ c wide. op_arm c.requires.0 c.in-3.is (λ va. refl))
-    (λ c wide. let s = c in
-    op_else s.requires.0 s.in-4.is rt c.rt.ensures c.if-rt-ne0.true (λ va. refl))
-    (λ c wide. let s = c in
-    arm_if (s.requires.0 ∙ s.in-4.is) rt (sym c.rt.ensures) c.if-rt-ne0.false
+    (λ c wide. op_else c.requires.0 c.in-4.is rt c.rt.ensures c.if-rt-ne0.true (λ va. refl))
+    (λ c wide. arm_if (c.requires.0 ∙ c.in-4.is) rt (sym c.rt.ensures) c.if-rt-ne0.false
     rs c.rs.ensures c.if-rs-eq0.true (λ va. refl))
-    (λ c wide. let s = c in
-    arm_else (s.requires.0 ∙ s.in-4.is) rt (sym c.rt.ensures) c.if-rt-ne0.false
+    (λ c wide. arm_else (c.requires.0 ∙ c.in-4.is) rt (sym c.rt.ensures) c.if-rt-ne0.false
     rs c.rs.ensures c.if-rs-eq0.false (λ va. refl))
-    (λ c wide. let s = c in
-    arm (s.requires.0 ∙ s.in-5.is) rt (sym c.rt-in-5.ensures) c.if-rt-eq0.true (λ va. refl))
-    (λ c wide. let s = c in
-    op_else s.requires.0 s.in-5.is rt c.rt-in-5.ensures c.if-rt-eq0.false (λ va. refl))
-    (λ c wide. let s = c in
-    arm (s.requires.0 ∙ s.in-20.is) rt (sym c.rt-in-20.ensures) c.if-rt-eq0-2.true (λ va. refl))
-    (λ c wide. let s = c in
-    op_else s.requires.0 s.in-20.is rt c.rt-in-20.ensures c.if-rt-eq0-2.false (λ va. refl))
-    (λ c wide. let s = c in
-    arm (s.requires.0 ∙ s.in-21.is) rt (sym c.rt-in-21.ensures) c.if-rt-eq0-3.true (λ va. refl))
-    (λ c wide. let s = c in
-    op_else s.requires.0 s.in-21.is rt c.rt-in-21.ensures c.if-rt-eq0-3.false (λ va. refl))
+    (λ c wide. arm (c.requires.0 ∙ c.in-5.is) rt (sym c.rt-in-5.ensures) c.if-rt-eq0.true (λ va. refl))
+    (λ c wide. op_else c.requires.0 c.in-5.is rt c.rt-in-5.ensures c.if-rt-eq0.false (λ va. refl))
+    (λ c wide. arm (c.requires.0 ∙ c.in-20.is) rt (sym c.rt-in-20.ensures) c.if-rt-eq0-2.true (λ va. refl))
+    (λ c wide. op_else c.requires.0 c.in-20.is rt c.rt-in-20.ensures c.if-rt-eq0-2.false (λ va. refl))
+    (λ c wide. arm (c.requires.0 ∙ c.in-21.is) rt (sym c.rt-in-21.ensures) c.if-rt-eq0-3.true (λ va. refl))
+    (λ c wide. op_else c.requires.0 c.in-21.is rt c.rt-in-21.ensures c.if-rt-eq0-3.false (λ va. refl))
     (λ c wide. op_arm c.requires.0 c.in-6.is (λ va. refl))
     (λ c wide. op_arm c.requires.0 c.in-7.is (λ va. refl))
     (λ c wide. op_arm c.requires.0 c.in-22.is (λ va. refl))

@@ -16,15 +16,11 @@ unfolding row_by number_by meaning reading outs flow_of target_in mark_of effect
 regimm_spec = tie.close (tie.spec
     (λ c κs. search rules) (λ c κs. search rules) (λ c κs. search rules)
     (λ c wide. arm c.requires rt (sym c.rt-rt.ensures) c.in-0.is (λ va. refl))
-    (λ c wide. let s = c in
-    arm_if s.requires rt (sym s.rt-rt.ensures) s.in-1.is rs c.rs.ensures c.if-rs-eq0.true (λ va. refl))
-    (λ c wide. let s = c in
-    arm_else s.requires rt (sym s.rt-rt.ensures) s.in-1.is rs c.rs.ensures c.if-rs-eq0.false (λ va. refl))
+    (λ c wide. arm_if c.requires rt (sym c.rt-rt.ensures) c.in-1.is rs c.rs.ensures c.if-rs-eq0.true (λ va. refl))
+    (λ c wide. arm_else c.requires rt (sym c.rt-rt.ensures) c.in-1.is rs c.rs.ensures c.if-rs-eq0.false (λ va. refl))
     (λ c wide. arm c.requires rt (sym c.rt-rt.ensures) c.in-2.is (λ va. refl))
     (λ c wide. arm c.requires rt (sym c.rt-rt.ensures) c.in-3.is (λ va. refl))
     (λ c wide. arm c.requires rt (sym c.rt-rt.ensures) c.in-16.is (λ va. refl))
-    (λ c wide. let s = c in
-    arm_if s.requires rt (sym s.rt-rt.ensures) s.in-17.is rs c.rs-in-17.ensures c.if-rs-eq0-2.true (λ va. refl))
-    (λ c wide. let s = c in
-    arm_else s.requires rt (sym s.rt-rt.ensures) s.in-17.is rs c.rs-in-17.ensures c.if-rs-eq0-2.false (λ va. refl))
+    (λ c wide. arm_if c.requires rt (sym c.rt-rt.ensures) c.in-17.is rs c.rs-in-17.ensures c.if-rs-eq0-2.true (λ va. refl))
+    (λ c wide. arm_else c.requires rt (sym c.rt-rt.ensures) c.in-17.is rs c.rs-in-17.ensures c.if-rs-eq0-2.false (λ va. refl))
     (λ c wide. arm_rest c.requires rt (sym c.rt-rt.ensures) keys c.in_default.in_default-own.rest refl tt))

@@ -14,10 +14,8 @@ use Rattle.decode.proofs.special.Tie as tie
 returns-else-w-eq-SSNOP : tie.Need-returns-else-w-eq-SSNOP
 unfolding row_by meaning
 returns-else-w-eq-SSNOP c =
-    let s = c.before.before in
-    let a = s in
-    let k = sym s.funct-funct.ensures ∙ s.in-0.is in taken (op ≐ 0 ∷ funct ≐ 0 ∷ busy ∷ [])
-    (a.requires, (k, (known_busy _ a.ranges.w.fits a.requires k c.if-w-eq-NOP.false c.if-w-eq-SSNOP.false, tt))) (λ va. refl)
+    let k = sym c.funct-funct.ensures ∙ c.in-0.is in taken (op ≐ 0 ∷ funct ≐ 0 ∷ busy ∷ [])
+    (c.requires, (k, (known_busy _ c.ranges.w.fits c.requires k c.if-w-eq-NOP.false c.if-w-eq-SSNOP.false, tt))) (λ va. refl)
 
 pub special_spec : {M : Type 1} → statement M
 unfolding row_by fields_of meaning reading outs flow_of target_in mark_of effect_of
@@ -27,10 +25,8 @@ special_spec = tie.close (tie.spec
     (λ c. taken (whole 0) (known_whole _ 0 c.if-w-eq-NOP.true) (λ va. refl))
     (λ c. taken (whole 64) (known_whole _ 64 c.if-w-eq-SSNOP.true) (λ va. refl))
     returns-else-w-eq-SSNOP
-    (λ c. let s = c.before.before in
-    arm_if s.requires funct (sym s.funct-funct.ensures) s.in-2.is rs c.rs.ensures c.if-rs-eq1.true (λ va. refl))
-    (λ c. let s = c.before.before in
-    arm_else s.requires funct (sym s.funct-funct.ensures) s.in-2.is rs c.rs.ensures c.if-rs-eq1.false (λ va. refl))
+    (λ c. arm_if c.requires funct (sym c.funct-funct.ensures) c.in-2.is rs c.rs.ensures c.if-rs-eq1.true (λ va. refl))
+    (λ c. arm_else c.requires funct (sym c.funct-funct.ensures) c.in-2.is rs c.rs.ensures c.if-rs-eq1.false (λ va. refl))
     (λ c. arm c.requires funct (sym c.funct-funct.ensures) c.in-3.is (λ va. refl))
     (λ c. arm c.requires funct (sym c.funct-funct.ensures) c.in-56.is (λ va. refl))
     (λ c. arm c.requires funct (sym c.funct-funct.ensures) c.in-58.is (λ va. refl))

@@ -20,13 +20,9 @@ special3_spec = tie.close (tie.spec
     (λ c κs. search rules) (λ c κs. search rules)
     (λ c wide. arm c.requires funct (sym c.funct-funct.ensures) c.in-0.is (λ va. refl))
     (λ c wide. arm c.requires funct (sym c.funct-funct.ensures) c.in-4.is (λ va. refl))
-    (λ c wide. let s = c in
-    arm_if s.requires funct (sym s.funct-funct.ensures) s.in-32.is sa c.sa-sa.ensures c.in-2.is (λ va. refl))
-    (λ c wide. let s = c in
-    arm_if s.requires funct (sym s.funct-funct.ensures) s.in-32.is sa c.sa-sa.ensures c.in-16.is (λ va. refl))
-    (λ c wide. let s = c in
-    arm_if s.requires funct (sym s.funct-funct.ensures) s.in-32.is sa c.sa-sa.ensures c.in-24.is (λ va. refl))
-    (λ c wide. let s = c in
-    arm_if_rest s.requires funct (sym s.funct-funct.ensures) s.in-32.is sa inner c.sa-sa.ensures c.in_default-sa.in_default-sa-own.rest refl tt)
+    (λ c wide. arm_if c.requires funct (sym c.funct-funct.ensures) c.in-32.is sa c.sa-sa.ensures c.in-2.is (λ va. refl))
+    (λ c wide. arm_if c.requires funct (sym c.funct-funct.ensures) c.in-32.is sa c.sa-sa.ensures c.in-16.is (λ va. refl))
+    (λ c wide. arm_if c.requires funct (sym c.funct-funct.ensures) c.in-32.is sa c.sa-sa.ensures c.in-24.is (λ va. refl))
+    (λ c wide. arm_if_rest c.requires funct (sym c.funct-funct.ensures) c.in-32.is sa inner c.sa-sa.ensures c.in_default-sa.in_default-sa-own.rest refl tt)
     (λ c wide. arm c.requires funct (sym c.funct-funct.ensures) c.in-59.is (λ va. refl))
     (λ c wide. arm_rest c.requires funct (sym c.funct-funct.ensures) outer c.in_default.in_default-own.rest refl tt))

@@ -9,9 +9,8 @@ returns-then-line-all c = let a = c.args in rw (lt-ltb (a.c.line + a.lines) a.al
 
 returns : tie.Need-returns
 returns c =
-    let there = c in
-    let a = there.args in
-    rw (le-ltb (a.c.line + a.lines) a.all there.if-line-all.false)
+    let a = c.args in
+    rw (le-ltb (a.c.line + a.lines) a.all c.if-line-all.false)
 
 pub after_spec : {M : Type 1} → statement M
 after_spec = tie.close (tie.spec (λ c. search rules) returns-then-line-all (λ c. search rules) returns)

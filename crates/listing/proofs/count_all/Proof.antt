@@ -23,49 +23,41 @@ loop-n-init c =
 
 -- what is refused in a section
 refused_is : (c : tie.After-refusals-refused invariant-loop-n decreases-loop-n) →
-    let loop = c in
-    c.refusals-refused.result ≡ refused_count loop.args.file.now loop.loop-n.n
+    c.refusals-refused.result ≡ refused_count c.args.file.now c.loop-n.n
 refused_is c =
-    let view = c in
-    rw (view.view.ensures, view.body.ensures.0) at c.refusals-refused.ensures
+    rw (c.view.ensures, c.body.ensures.0) at c.refusals-refused.ensures
 
 overflow_add-found : tie.Need-overflow_add-found invariant-loop-n decreases-loop-n
 overflow_add-found c =
-    let loop = c in
-    let f = loop.args.file.now in
-    let i = loop.loop-n.invariant in
-    omega (arith, c.words-found.ensures, words_most f loop.loop-n.n, i.2.few, i.0, i.1)
+    let f = c.args.file.now in
+    let i = c.loop-n.invariant in
+    omega (arith, c.words-found.ensures, words_most f c.loop-n.n, i.2.few, i.0, i.1)
 
 overflow_add-refused : tie.Need-overflow_add-refused invariant-loop-n decreases-loop-n
 overflow_add-refused c =
-    let loop = c in
-    let f = loop.args.file.now in
-    let i = loop.loop-n.invariant in
-    omega (arith, refused_is c, refused_most f loop.loop-n.n, i.3.few, i.0, i.1)
+    let f = c.args.file.now in
+    let i = c.loop-n.invariant in
+    omega (arith, refused_is c, refused_most f c.loop-n.n, i.3.few, i.0, i.1)
 
 loop-n-preserved : tie.Need-loop-n-preserved invariant-loop-n decreases-loop-n
 loop-n-preserved c =
-    let words = c.before.before.before in
-    let test = words.before in
-    let loop = test in
-    let f = loop.args.file.now in
-    let count = loop.count-count.result in
-    let l = loop.loop-n in
+    let f = c.args.file.now in
+    let count = c.count-count.result in
+    let l = c.loop-n in
     let n = l.n in
-    let h = test.loop-n-test.true in
+    let h = c.loop-n-test.true in
     let i = l.invariant in (
       omega (arith, h),
       i.1,
-      rw words.words-found.ensures (more (word_count f) count n l.found i.2 (words_most f n) h),
+      rw c.words-found.ensures (more (word_count f) count n l.found i.2 (words_most f n) h),
       rw (refused_is c) (more (refused_count f) count n l.refused i.3 (refused_most f n) h),
     )
 
 returns : tie.Need-returns invariant-loop-n decreases-loop-n
 returns c =
-    let loop = c in
-    let count = loop.count-count in
-    let f = loop.args.file.now in
-    let l = loop.loop-n in
+    let count = c.count-count in
+    let f = c.args.file.now in
+    let l = c.loop-n in
     let h = c.loop-n-test.false in
     rw (← count.ensures)
     record {
@@ -83,7 +75,7 @@ count_all_spec = tie.close (tie.spec
     overflow_add-found
     (λ c κs. search rules) (λ c κs. search rules) (λ c κs. search rules)
     overflow_add-refused
-    (λ c. let loop = c in omega (arith, loop.loop-n.invariant.0, loop.loop-n.invariant.1))
-    (λ c. let test = c.before.before.before.before in omega (arith, test.loop-n-test.true))
+    (λ c. omega (arith, c.loop-n.invariant.0, c.loop-n.invariant.1))
+    (λ c. omega (arith, c.loop-n-test.true))
     loop-n-preserved
     returns)

@@ -10,12 +10,10 @@ use Rattle.listing.proofs.first_run.Tie as tie
 
 returns-then-size-eq0 : tie.Need-returns-then-size-eq0
 returns-then-size-eq0 c =
-    let head = c.before.before.before in
-    let s = head in
-    let a = s.args in
+    let a = c.args in
     let f = a.file.now in
-    let e = head_at f a.n s.requires in
-    ran_none f a.n 0 a.out.now (rw e head.head-size.ensures) (omega (arith, lines_are f a.n s.requires))
+    let e = head_at f a.n c.requires in
+    ran_none f a.n 0 a.out.now (rw e c.head-size.ensures) (omega (arith, lines_are f a.n c.requires))
     (rw e (head_some f a.n)) c.if-size-eq0.true
 
 -- the page after the head
@@ -50,14 +48,9 @@ module _ (c : tie.After-page-p) where
 
 returns : tie.Need-returns
 returns c =
-    let page = c.before.before.before.before in
-    let view = page.before.before in
-    let there = view.before.before in
-    let head = there.before.before.before in
-    let s = head in
-    let a = s.args in
-    ran_head a.file.now a.n s.requires a.out.now head.head-size.ensures there.if-size-eq0.false view.view.ensures
-    view.body.ensures.0 page.page-p.ensures
+    let a = c.args in
+    ran_head a.file.now a.n c.requires a.out.now c.head-size.ensures c.if-size-eq0.false c.view.ensures
+    c.body.ensures.0 c.page-p.ensures
 
 pub first_run_spec : {M : Type 1} → statement M
 first_run_spec = tie.close (tie.spec

@@ -9,20 +9,14 @@ use Rattle.listing.proofs.last.Tie as tie
 returns-then-check-ne0 : tie.Need-returns-then-check-ne0
 unfolding last_line
 returns-then-check-ne0 c =
-    let put = c.before.before in
-    let bad = put.before.before in
-    let check = bad in
-    let f = check.args.file.now in
-    rw (ne_eqb (checked f) 0 (λ z. bad.if-check-ne0.true (check.check.ensures ∙ z))) put.refused.ensures
+    let f = c.args.file.now in
+    rw (ne_eqb (checked f) 0 (λ z. c.if-check-ne0.true (c.check.ensures ∙ z))) c.refused.ensures
 
 returns : tie.Need-returns
 unfolding last_line
 returns c =
-    let put = c.before.before in
-    let good = put.before.before in
-    let check = good in
-    let f = check.args.file.now in
-    rw (eq-eqb (checked f) 0 (sym check.check.ensures ∙ good.if-check-ne0.false)) put.total.ensures
+    let f = c.args.file.now in
+    rw (eq-eqb (checked f) 0 (sym c.check.ensures ∙ c.if-check-ne0.false)) c.total.ensures
 
 pub last_spec : {M : Type 1} → statement M
 last_spec = tie.close (tie.spec

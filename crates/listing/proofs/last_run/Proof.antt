@@ -8,19 +8,17 @@ use Rattle.listing.proofs.last_run.Tie as tie
 
 returns-then-size-eq0 : tie.Need-returns-then-size-eq0
 returns-then-size-eq0 c =
-    let last = c in
-    let a = last.args in
+    let a = c.args in
     let f = a.file.now in
     let e = last_is f 0 in
-    ran_none f (count_of f) 0 a.out.now (rw e last.last-size.ensures) (omega (arith, last_one f))
+    ran_none f (count_of f) 0 a.out.now (rw e c.last-size.ensures) (omega (arith, last_one f))
     (rw e (last_some f)) c.if-size-eq0.true
 
 returns : tie.Need-returns
 returns c =
-    let last = c in
-    let a = last.args in
+    let a = c.args in
     let f = a.file.now in
-    ran_one f (count_of f) 0 a.out.now (rw (last_is f 0) last.last-size.ensures) c.if-size-eq0.false
+    ran_one f (count_of f) 0 a.out.now (rw (last_is f 0) c.last-size.ensures) c.if-size-eq0.false
     (omega (arith, last_one f))
 
 pub last_run_spec : {M : Type 1} → statement M

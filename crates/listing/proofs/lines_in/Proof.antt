@@ -17,10 +17,8 @@ overflow_add-result c =
 returns-then-n-count : tie.Need-returns-then-n-count
 unfolding lines_in
 returns-then-n-count c =
-    let there = c.before in
-    let count = there in
-    let a = count.args in
-    rw (lt-ltb a.n (count_of a.file.now) (omega (arith, there.if-n-count.true, count.count-count.ensures)))
+    let a = c.args in
+    rw (lt-ltb a.n (count_of a.file.now) (omega (arith, c.if-n-count.true, c.count-count.ensures)))
     (omega (arith, c.words.ensures))
 
 -- past the last section
@@ -32,18 +30,16 @@ past c = omega (arith, c.if-n-count.false, c.count-count.ensures)
 returns-then-n-count-2 : tie.Need-returns-then-n-count-2
 unfolding lines_in
 returns-then-n-count-2 c =
-    let count = c in
-    let a = count.args in
+    let a = c.args in
     let n = count_of a.file.now in
-    rw (le-ltb a.n n (past c.before), eq-eqb a.n n (c.if-n-count-2.true ∙ count.count-count.ensures))
+    rw (le-ltb a.n n (past c.before), eq-eqb a.n n (c.if-n-count-2.true ∙ c.count-count.ensures))
 
 returns : tie.Need-returns
 unfolding lines_in
 returns c =
-    let count = c in
-    let a = count.args in
+    let a = c.args in
     let n = count_of a.file.now in
-    rw (le-ltb a.n n (past c.before), ne_eqb a.n n (λ e. c.if-n-count-2.false (e ∙ sym count.count-count.ensures)))
+    rw (le-ltb a.n n (past c.before), ne_eqb a.n n (λ e. c.if-n-count-2.false (e ∙ sym c.count-count.ensures)))
 
 pub lines_in_spec : {M : Type 1} → statement M
 lines_in_spec = tie.close (tie.spec

@@ -16,11 +16,10 @@ use Rattle.listing.proofs.piece.Tie as tie
 
 returns-then-all-c : tie.Need-returns-then-all-c
 returns-then-all-c c =
-    let all = c.before.before in
-    let a = all.args in
+    let a = c.args in
     let f = a.file.now in
     let room = length a.out.now in
-    let h : lines_in f a.c.section ≤ a.c.line = omega (arith, c.if-all-c.true, all.lines_in-all.ensures) in
+    let h : lines_in f a.c.section ≤ a.c.line = omega (arith, c.if-all-c.true, c.lines_in-all.ensures) in
     (ended f room a.c h, rw (no_bytes f room a.c (no_line f room a.c h)))
 
 -- past the first test: there is a line

@@ -11,20 +11,15 @@ use Rattle.listing.proofs.put_counts.Tie as tie
 
 -- the line is in the array, before it is copied
 line-there : (put : tie.After-put1) →
-    let second = put.before.before.before in
-    let first = second.before.before.before in
-    let a = first.args in
-    let size = second.put_number-end.result + 1 in
+    let a = put.args in
+    let size = put.put_number-end.result + 1 in
     let l = counted a.before.now a.m a.between.now a.n in
     (take size put.put1.new.dst ≡ l) × (size ≡ length l)
 line-there put =
-    let second = put.before.before.before in
-    let first = second.before.before.before in
-    let s = first in
-    let a = s.args in
+    let a = put.args in
     let w =
-    counts_written a.before.now a.between.now a.m a.n (omega (arith, s.requires))
-    first.put_number-at.ensures second.put_number-end.ensures put.put1.ensures in
+    counts_written a.before.now a.between.now a.m a.n (omega (arith, put.requires))
+    put.put_number-at.ensures put.put_number-end.ensures put.put1.ensures in
     (front w, omega (arith, w.after))
 
 slice_bounds-put_whole-end : tie.Need-slice_bounds-put_whole-end
@@ -40,9 +35,7 @@ pub put_counts_spec : {M : Type 1} → statement M
 put_counts_spec = tie.close (tie.spec
     (λ c. search rules) (λ c κs. search rules) (λ c. search rules)
     (λ c κs.
-    let first = c.before.before in
-    let s = first in
-    omega (arith, first.put_number-at.ensures.short, s.requires))
+    omega (arith, c.put_number-at.ensures.short, c.requires))
     (λ c. search rules) (λ c κs. search rules) (λ c. search rules) (λ c. search rules)
     slice_bounds-put_whole-end
     (λ c κs. search rules) (λ c. search rules)

@@ -11,24 +11,19 @@ use Rattle.listing.proofs.put_number.Tie as tie
 
 overflow_add-result : tie.Need-overflow_add-result
 overflow_add-result c =
-    let count = c.before.before in
-    let s = count in
-    omega (arith, count.count.ensures.0, numeral_most 10 s.args.n, s.requires)
+    omega (arith, c.count.ensures.0, numeral_most 10 c.args.n, c.requires)
 
 returns : tie.Need-returns
 returns c =
-    let count = c.before.before in
-    let put = count.before.before.before.before in
-    let s = put in
-    let a = s.args in
+    let a = c.args in
     let b = a.before.now in
     let most = numeral_most 10 a.n in
     let text : Wrote a.at (length b) b a.out.now _ (a.at + length b) =
-    wrote (omega arith) (omega (arith, s.requires)) refl put.put.ensures in
+    wrote (omega arith) (omega (arith, c.requires)) refl c.put.ensures in
     after text
-    (wrote most (rw (kept text (omega (arith, s.requires))) (omega (arith, s.requires, most))) count.count.ensures.0
-    count.count.ensures.1)
-    (omega (arith, s.requires))
+    (wrote most (rw (kept text (omega (arith, c.requires))) (omega (arith, c.requires, most))) c.count.ensures.0
+    c.count.ensures.1)
+    (omega (arith, c.requires))
 
 pub put_number_spec : {M : Type 1} → statement M
 put_number_spec = tie.close (tie.spec

@@ -8,13 +8,9 @@ use Rattle.listing.proofs.run_from.Tie as tie
 
 returns-then-count-n : tie.Need-returns-then-count-n
 returns-then-count-n c =
-    let last = c.before.before in
-    let past = last.before.before in
-    let count = past.before in
-    let s = count in
-    let a = s.args in
-    let e = only_last a.file.now a.n a.j s.requires (omega (arith, past.if-count-n.true, count.count.ensures)) in
-    rw (e.0, e.1) last.last_run.ensures
+    let a = c.args in
+    let e = only_last a.file.now a.n a.j c.requires (omega (arith, c.if-count-n.true, c.count.ensures)) in
+    rw (e.0, e.1) c.last_run.ensures
 
 -- a section that is there
 there : (c : tie.Else-count-n) → let a = c.args in a.n < count_of a.file.now
@@ -22,8 +18,7 @@ there c = omega (arith, c.if-count-n.false, c.count.ensures)
 
 returns-then-j-eq0 : tie.Need-returns-then-j-eq0
 returns-then-j-eq0 c =
-    let first = c in
-    rw first.if-j-eq0.true first.first_run.ensures
+    rw c.if-j-eq0.true c.first_run.ensures
 
 returns : tie.Need-returns
 returns c =

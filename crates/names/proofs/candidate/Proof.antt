@@ -27,10 +27,9 @@ overflow_add-place-2 c =
 returns : tie.Need-returns
 unfolding complete only_kinds all_below name_bytes name_of mnemonics padded letters letter
 returns c =
-    let w = c in
-    let n = w.get8-letters in
+    let n = c.get8-letters in
     let s = c.shift_in-shift in
-    let ninth = get_or w.args.name 8 0 in
+    let ninth = get_or c.args.name 8 0 in
     candidate_is n.result ninth s.result n.ensures.0 refl s.ensures refl c.kind_in.ensures tt tt
 
 pub candidate_spec : {M : Type 1} → statement M

@@ -8,18 +8,16 @@ use Rattle.names.proofs.kind_of.Tie as tie
 
 returns-then-same_name : tie.Need-returns-then-same_name
 returns-then-same_name c =
-    let w = c in
-    let k = w.candidate-kind in
-    let name = w.args.name in
-    taken_is name k.result k.ensures (c.same_name.ensures.0 c.if-same_name.true ∙ w.name_of.ensures)
+    let k = c.candidate-kind in
+    let name = c.args.name in
+    taken_is name k.result k.ensures (c.same_name.ensures.0 c.if-same_name.true ∙ c.name_of.ensures)
 
 returns-else-same_name : tie.Need-returns-else-same_name
 returns-else-same_name c =
-    let w = c in
-    let k = w.candidate-kind in
-    let name = w.args.name in
+    let k = c.candidate-kind in
+    let name = c.args.name in
     left_is name k.result k.ensures
-    (λ e. true≢false (sym (c.same_name.ensures.1 (e ∙ sym w.name_of.ensures)) ∙ c.if-same_name.false))
+    (λ e. true≢false (sym (c.same_name.ensures.1 (e ∙ sym c.name_of.ensures)) ∙ c.if-same_name.false))
 
 pub kind_of_spec : {M : Type 1} → statement M
 kind_of_spec = tie.close (tie.spec (λ c κs. search rules) (λ c κs. search rules) (λ c κs. search rules) returns-then-same_name returns-else-same_name)

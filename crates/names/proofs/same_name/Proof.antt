@@ -11,17 +11,14 @@ use Rattle.names.proofs.same_name.Tie as tie
 
 returns-then-get8 : tie.Need-returns-then-get8
 returns-then-get8 c =
-    let high = c.before.before in
-    let branch = high.before.before in
-    let low = branch in
-    let a = low.args.a in
-    let b = low.args.b in
+    let a = c.args.a in
+    let b = c.args.b in
     let p : length a ≡ 16 = search rules in
     let q : length b ≡ 16 = search rules in
-    let first : take 8 (drop 0 a) ≡ take 8 (drop 0 b) = sym (low.get8.ensures.1 (omega arith)) ∙ ap (low_bytes 8) branch.if-get8.true ∙ branch.get8-2.ensures.1 (omega arith) in
-    let tested = eqb-true high.get8-then-get8.result c.get8-then-get8-2.result in (
-      λ e. halves_same a b p q first (sym (high.get8-then-get8.ensures.1 (omega arith)) ∙ ap (low_bytes 8) (tested e) ∙ c.get8-then-get8-2.ensures.1 (omega arith)),
-      λ e. eq-eqb high.get8-then-get8.result c.get8-then-get8-2.result (high.get8-then-get8.ensures.0 ∙ ap (num_at 8 8) e ∙ sym c.get8-then-get8-2.ensures.0),
+    let first : take 8 (drop 0 a) ≡ take 8 (drop 0 b) = sym (c.get8.ensures.1 (omega arith)) ∙ ap (low_bytes 8) c.if-get8.true ∙ c.get8-2.ensures.1 (omega arith) in
+    let tested = eqb-true c.get8-then-get8.result c.get8-then-get8-2.result in (
+      λ e. halves_same a b p q first (sym (c.get8-then-get8.ensures.1 (omega arith)) ∙ ap (low_bytes 8) (tested e) ∙ c.get8-then-get8-2.ensures.1 (omega arith)),
+      λ e. eq-eqb c.get8-then-get8.result c.get8-then-get8-2.result (c.get8-then-get8.ensures.0 ∙ ap (num_at 8 8) e ∙ sym c.get8-then-get8-2.ensures.0),
     )
 
 returns-else-get8 : tie.Need-returns-else-get8

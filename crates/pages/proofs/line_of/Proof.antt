@@ -14,30 +14,23 @@ use Rattle.pages.proofs.line_of.Tie as tie
 
 put_text-end-requires : tie.Need-put_text-end-requires
 put_text-end-requires c κs =
-    let word = c.before in
-    let a = word.args in
-    (rw word.decoded.ensures (answers within a.v a.body.now a.n), search rules)
+    let a = c.args in
+    (rw c.decoded.ensures (answers within a.v a.body.now a.n), search rules)
 
 -- the text has no more bytes than the longest line
 short : (c : tie.After-put_text-end) → c.put_text-end.result ≤ longest
 short c =
-    let word = c.before.before in
-    let a = word.args in
-    let text = c.put_text-end.ensures.0 ∙ ap (λ (d : Decoded). length (answer_text plain d)) word.decoded.ensures in
+    let a = c.args in
+    let text = c.put_text-end.ensures.0 ∙ ap (λ (d : Decoded). length (answer_text plain d)) c.decoded.ensures in
     omega (arith, text, answer_most within a.v a.body.now a.n)
 
 returns : tie.Need-returns
 returns c =
-    let newline = c.before.before in
-    let text = newline.before.before.before.before in
-    let word = text.before.before in
-    let columns = word.before.before.before in
-    let s = columns in
-    let a = s.args in
-    let d = word.decoded.ensures in
-    line_written plain a.v a.body.now a.n a.out.now s.requires.1
-    (answer_most within a.v a.body.now a.n) columns.put_columns.ensures
-    (rw d at text.put_text-end.ensures.0) (rw d at text.put_text-end.ensures.1) newline.put1.ensures
+    let a = c.args in
+    let d = c.decoded.ensures in
+    line_written plain a.v a.body.now a.n a.out.now c.requires.1
+    (answer_most within a.v a.body.now a.n) c.put_columns.ensures
+    (rw d at c.put_text-end.ensures.0) (rw d at c.put_text-end.ensures.1) c.put1.ensures
 
 pub line_of_spec : {M : Type 1} → statement M
 line_of_spec = tie.close (tie.spec

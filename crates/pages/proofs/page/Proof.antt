@@ -12,11 +12,10 @@ use Rattle.pages.proofs.page.Tie as tie
 
 returns-then-count-n : tie.Need-returns-then-count-n
 returns-then-count-n c =
-    let past = c.before in
-    let a = past.args in
+    let a = c.args in
     let b = a.body.now in
     let o = a.out.now in
-    let h : words_in b ≤ a.n = omega (arith, past.count.ensures, past.if-count-n.true) in
+    let h : words_in b ≤ a.n = omega (arith, c.count.ensures, c.if-count-n.true) in
     let z = no_index plain a.v b a.n (length o) a.place h in (
       c.no_page.ensures ∙ answers_15 plain a.v b a.n (length o) a.place h,
       untouched plain a.v b a.n a.place o z,

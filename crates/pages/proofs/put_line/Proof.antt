@@ -11,8 +11,7 @@ slice_bounds-put_whole-end c =
 
 returns : tie.Need-returns
 returns c =
-    let put = c in
-    rw (front put.line_of-size.ensures) at put.put_whole.ensures
+    rw (front c.line_of-size.ensures) at c.put_whole.ensures
 
 pub put_line_spec : {M : Type 1} → statement M
 put_line_spec = tie.close (tie.spec

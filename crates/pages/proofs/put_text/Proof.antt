@@ -16,40 +16,32 @@ use Rattle.pages.proofs.put_text.Tie as tie
 
 returns-then-number-ne0 : tie.Need-returns-then-number-ne0
 returns-then-number-ne0 c =
-    let w = c.before.before in
-    let u = w.before.before.before.before in
-    let s = u in
-    let d = s.args.d in
-    let o = s.args.out.now in
+    let d = c.args.d in
+    let o = c.args.out.now in
     let N = numeral_of 10 d.number in
     let most = numeral_most 10 d.number in
     let l : length (text_of "refused ") ≡ 8 = ap length (sym says_refused) in
-    let p₁ = first_at 0 (text_of "refused ") o (omega arith) says_refused u.put.ensures in
-    let p₂ = next_at 0 8 (text_of "refused ") N o (omega arith) (omega arith) p₁ refl w.count.ensures.1 in
-    let refuses = u in
-    rw (text_refused plain d refuses.if-number-ne0.true)
-    (simp length-append (omega (arith, l, w.count.ensures.0)), p₂ ∙ at_start (text_of "refused " ++ N) o)
+    let p₁ = first_at 0 (text_of "refused ") o (omega arith) says_refused c.put.ensures in
+    let p₂ = next_at 0 8 (text_of "refused ") N o (omega arith) (omega arith) p₁ refl c.count.ensures.1 in
+    rw (text_refused plain d c.if-number-ne0.true)
+    (simp length-append (omega (arith, l, c.count.ensures.0)), p₂ ∙ at_start (text_of "refused " ++ N) o)
 
 returns : tie.Need-returns
 returns c =
-    let w = c.before.before in
-    let s = w in
-    let d = s.args.d in
-    let o = s.args.out.now in
-    let e = printed_whole plain d (length o) s.requires.0 s.requires.1 in
-    rw (text_accepted plain d w.if-number-ne0.false) (
-      ap (λ (p : Printed). p.length) w.print-p.ensures.0 ∙ ap length e,
-      w.print-p.ensures.1.0 ∙ ap (λ (l : List ℕ). over l o) e,
+    let d = c.args.d in
+    let o = c.args.out.now in
+    let e = printed_whole plain d (length o) c.requires.0 c.requires.1 in
+    rw (text_accepted plain d c.if-number-ne0.false) (
+      ap (λ (p : Printed). p.length) c.print-p.ensures.0 ∙ ap length e,
+      c.print-p.ensures.1.0 ∙ ap (λ (l : List ℕ). over l o) e,
     )
 
 pub put_text_spec : {M : Type 1} → statement M
 put_text_spec = tie.close (tie.spec
     (λ c κs. search rules) (λ c. search rules) (λ c κs. search rules)
     (λ c.
-    let w = c.before.before in
-    let u = w.before.before.before.before in
-    let d = u.args.d in
-    omega (arith, numeral_most 10 d.number, w.count.ensures.0))
+    let d = c.args.d in
+    omega (arith, numeral_most 10 d.number, c.count.ensures.0))
     (λ c. search rules)
     returns-then-number-ne0
     (λ c κs. search rules) (λ c. search rules)

@@ -11,21 +11,13 @@ use Rattle.reading.proofs.same_parts.Tie as tie
 -- all but the addresses are equal
 returns-then-a-b-5 : tie.Need-returns-then-a-b-5
 returns-then-a-b-5 c =
-    let values = c.before.before in
-    let told-b = values.before in
-    let told-a = told-b.before.before in
-    let sizes = told-a.before.before in
-    let seconds = sizes.before.before.before in
-    let firsts = seconds.before.before.before in
-    let numbers = firsts.before.before.before in
-    let entry = numbers.before.before.before in
-    let a : Parts = entry.args.a in
-    let b : Parts = entry.args.b in
-    let fa : SFits w64 a.value = record { sfits = told-a.struct_told-1.given.1.1.1.1.0.1 } in
-    let fb : SFits w64 b.value = record { sfits = told-b.struct_told-then-a-b-4-1.given.1.1.1.1.0.1 } in
-    let v : a.value ≡ b.value = sym (to_z-of_z fa) ∙ (ap (to_z w64) values.if-a-b-5.true ∙ to_z-of_z fb) in
+    let a : Parts = c.args.a in
+    let b : Parts = c.args.b in
+    let fa : SFits w64 a.value = record { sfits = c.struct_told-1.given.1.1.1.1.0.1 } in
+    let fb : SFits w64 b.value = record { sfits = c.struct_told-then-a-b-4-1.given.1.1.1.1.0.1 } in
+    let v : a.value ≡ b.value = sym (to_z-of_z fa) ∙ (ap (to_z w64) c.if-a-b-5.true ∙ to_z-of_z fb) in
     decides (number_says a.address b.address) (ap (λ (k : Parts). k.address))
-    (parts_one a b numbers.if-a-b.true firsts.if-a-b-2.true seconds.if-a-b-3.true sizes.if-a-b-4.true v)
+    (parts_one a b c.if-a-b.true c.if-a-b-2.true c.if-a-b-3.true c.if-a-b-4.true v)
 
 pub same_parts_spec : {M : Type 1} → statement M
 same_parts_spec = tie.close (tie.spec

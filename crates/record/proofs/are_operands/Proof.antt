@@ -26,29 +26,22 @@ module _ (i : Insn) (l : List ℕ) (h : 64 ≤ length l) where
 -- the first three are as the reading says
 returns-then-is_operand-3 : tie.Need-returns-then-is_operand-3
 returns-then-is_operand-3 c =
-    let third = c.before in
-    let second = third.before.before in
-    let first = second.before.before in
-    let s = first in
-    let i = s.args.d.insn in
-    let l = s.args.b.now in
+    let i = c.args.d.insn in
+    let l = c.args.b.now in
     let h : 64 ≤ length l = omega arith in
     decides c.is_operand-then-is_operand-3.ensures (at-3 i l h)
     (all_slots (slot i 0) (slot i 1) (slot i 2) (slot i 3) l refl refl refl h
-    (first.is_operand.ensures.0 first.if-is_operand.true)
-    (second.is_operand-then-is_operand.ensures.0 second.if-is_operand-2.true)
-    (third.is_operand-then-is_operand-2.ensures.0 third.if-is_operand-3.true))
+    (c.is_operand.ensures.0 c.if-is_operand.true)
+    (c.is_operand-then-is_operand.ensures.0 c.if-is_operand-2.true)
+    (c.is_operand-then-is_operand-2.ensures.0 c.if-is_operand-3.true))
 
 pub are_operands_spec : {M : Type 1} → statement M
 are_operands_spec = tie.close (tie.spec
     (λ c κs. search rules) (λ c κs. search rules) (λ c κs. search rules) (λ c κs. search rules)
     returns-then-is_operand-3
-    (λ c. let second = c.before.before in
-    let first = second.before.before in
-    let a = first.args in
+    (λ c. let a = c.args in
     ends_no c.is_operand-then-is_operand-2.ensures (at-2 a.d.insn a.b.now (omega arith)) c.if-is_operand-3.false)
-    (λ c. let first = c.before.before in
-    let a = first.args in
+    (λ c. let a = c.args in
     ends_no c.is_operand-then-is_operand.ensures (at_1 a.d.insn a.b.now (omega arith)) c.if-is_operand-2.false)
     (λ c. let a = c.args in
     ends_no c.is_operand.ensures (at-0 a.d.insn a.b.now (omega arith)) c.if-is_operand.false))

@@ -9,27 +9,19 @@ use Rattle.record.proofs.effect.Tie as tie
 
 returns : tie.Need-returns
 returns c =
-    let value-put = c.before.before in
-    let value = value-put.before.before in
-    let size-put = value.before.before.before in
-    let second-put = size-put.before.before.before.before in
-    let first-put = second-put.before.before.before.before in
-    let number_put = first-put.before.before.before.before in
-    let parts = number_put.before.before in
-    let s = parts in
-    let d = s.args.out.now in
-    let p : Parts = effect_parts s.args.d.insn.effect in
-    let e = parts.effect_parts-p.ensures in
-    let low = value.value_of.ensures ∙ ap (λ (q : Parts). value_of q % 2 ^ 64) e in
+    let d = c.args.out.now in
+    let p : Parts = effect_parts c.args.d.insn.effect in
+    let e = c.effect_parts-p.ensures in
+    let low = c.value_of.ensures ∙ ap (λ (q : Parts). value_of q % 2 ^ 64) e in
     next_at 12 16 (p.number ∷ p.first ∷ p.second ∷ p.size ∷ []) (low_bytes 8 (value_of p)) d refl (omega arith)
     (next_at 12 15 (p.number ∷ p.first ∷ p.second ∷ []) (p.size ∷ []) d refl (omega arith)
     (next_at 12 14 (p.number ∷ p.first ∷ []) (p.second ∷ []) d refl (omega arith)
     (next_at 12 13 (p.number ∷ []) (p.first ∷ []) d refl (omega arith)
-    (first_at 12 (p.number ∷ []) d (omega arith) (byte (ap (λ (q : Parts). q.number) e)) number_put.put1.ensures)
-    (byte (ap (λ (q : Parts). q.first) e)) first-put.put1-2.ensures)
-    (byte (ap (λ (q : Parts). q.second) e)) second-put.put1-3.ensures)
-    (byte (ap (λ (q : Parts). q.size) e)) size-put.put1-4.ensures)
-    (low8 _ (value_of p) low) value-put.put8.ensures
+    (first_at 12 (p.number ∷ []) d (omega arith) (byte (ap (λ (q : Parts). q.number) e)) c.put1.ensures)
+    (byte (ap (λ (q : Parts). q.first) e)) c.put1-2.ensures)
+    (byte (ap (λ (q : Parts). q.second) e)) c.put1-3.ensures)
+    (byte (ap (λ (q : Parts). q.size) e)) c.put1-4.ensures)
+    (low8 _ (value_of p) low) c.put8.ensures
 
 pub effect_spec : {M : Type 1} → statement M
 effect_spec = tie.close (tie.spec

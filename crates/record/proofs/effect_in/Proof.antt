@@ -5,10 +5,9 @@ use Rattle.record.proofs.effect_in.Tie as tie
 
 returns : tie.Need-returns
 returns c =
-    let get = c in
-    let l = get.args.b.now in
+    let l = c.args.b.now in
     c.effect_by.ensures
-    ∙ ap (effect_by (byte_at 12 l) (byte_at 13 l) (byte_at 14 l) (byte_at 15 l)) get.get8.ensures.0
+    ∙ ap (effect_by (byte_at 12 l) (byte_at 13 l) (byte_at 14 l) (byte_at 15 l)) c.get8.ensures.0
 
 pub effect_in_spec : {M : Type 1} → statement M
 effect_in_spec = tie.close (tie.spec

@@ -6,12 +6,9 @@ use Rattle.record.proofs.front.Tie as tie
 
 returns : tie.Need-returns
 returns c =
-    let effect-put = c.before.before in
-    let head-put = effect-put.before.before.before.before in
-    let s = head-put in
-    let i = s.args.d.insn in
-    then_at 0 12 (head_bytes i) (effect_bytes i.effect) s.args.out.now refl (omega arith)
-    head-put.head.ensures effect-put.effect.ensures
+    let i = c.args.d.insn in
+    then_at 0 12 (head_bytes i) (effect_bytes i.effect) c.args.out.now refl (omega arith)
+    c.head.ensures c.effect.ensures
 
 pub front_spec : {M : Type 1} → statement M
 front_spec = tie.close (tie.spec

@@ -10,31 +10,21 @@ use Rattle.record.proofs.head.Tie as tie
 
 returns : tie.Need-returns
 returns c =
-    let target-put = c.before.before in
-    let value = target-put.before.before in
-    let count-put = value.before.before.before in
-    let marks-put = count-put.before.before.before.before in
-    let marks = marks-put.before.before in
-    let flow-put = marks.before.before.before in
-    let flow = flow-put.before.before in
-    let number_put = flow.before.before.before in
-    let parts = number_put.before.before in
-    let s = parts in
-    let d = s.args.out.now in
-    let i = s.args.d.insn in
+    let d = c.args.out.now in
+    let i = c.args.d.insn in
     let f : ℕ = flow_number i.flow in
     let m : ℕ = bit i.delay_slot + 2 * (target_parts i.target).number in
     let v : ℕ = value_of (target_parts i.target) in
-    let low = value.value_of.ensures ∙ ap (λ (p : Parts). value_of p % 2 ^ 64) parts.target_parts-t.ensures in
+    let low = c.value_of.ensures ∙ ap (λ (p : Parts). value_of p % 2 ^ 64) c.target_parts-t.ensures in
     next_at 0 4 (0 ∷ f ∷ m ∷ i.count ∷ []) (low_bytes 8 v) d refl (omega arith)
     (next_at 0 3 (0 ∷ f ∷ m ∷ []) (i.count ∷ []) d refl (omega arith)
     (next_at 0 2 (0 ∷ f ∷ []) (m ∷ []) d refl (omega arith)
     (next_at 0 1 (0 ∷ []) (f ∷ []) d refl (omega arith)
-    (first_at 0 (0 ∷ []) d (omega arith) refl number_put.put1.ensures)
-    (byte flow.flow_number.ensures) flow-put.put1-2.ensures)
-    (byte marks.marks.ensures) marks-put.put1-3.ensures)
-    refl count-put.put1-4.ensures)
-    (low8 _ v low) target-put.put8.ensures
+    (first_at 0 (0 ∷ []) d (omega arith) refl c.put1.ensures)
+    (byte c.flow_number.ensures) c.put1-2.ensures)
+    (byte c.marks.ensures) c.put1-3.ensures)
+    refl c.put1-4.ensures)
+    (low8 _ v low) c.put8.ensures
 
 pub head_spec : {M : Type 1} → statement M
 head_spec = tie.close (tie.spec

@@ -9,15 +9,12 @@ unfolding insn_in
 returns c =
     let at_Target = c.before.before in
     let flow = at_Target.before.before.before in
-    let operands = flow.before.before in
-    let kind = operands.before.before in
-    let name = kind in
-    let l = name.args.b.now in
+    let l = flow.args.b.now in
     λ t.
     record {
-      mnemonic = (kind.kind_of.ensures ∙ ap kind_of name.name_in.ensures) t;
+      mnemonic = (flow.kind_of.ensures ∙ ap kind_of flow.name_in.ensures) t;
       count = byte_at 3 l;
-      ops = operands.operands_in.ensures t;
+      ops = flow.operands_in.ensures t;
       flow = flow.flow_by.ensures t;
       target = (at_Target.target_by.ensures ∙ ap (target_by (byte_at 2 l)) at_Target.get8.ensures.0) t;
       delay_slot = eqb (byte_at 2 l % 2) 1;

@@ -9,8 +9,7 @@ use Rattle.record.proofs.is_effect.Tie as tie
 
 returns : tie.Need-returns
 returns c =
-    let s = c in
-    let p : Parts = effect_parts s.args.d.insn.effect in
+    let p : Parts = effect_parts c.args.d.insn.effect in
     let e = c.effect_parts-p.ensures in
     let r = c.value_of.result in
     let low = c.value_of.ensures ∙ ap (λ (q : Parts). value_of q % 2 ^ 64) e in

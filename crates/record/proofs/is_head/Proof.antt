@@ -8,16 +8,11 @@ use Rattle.record.proofs.is_head.Tie as tie
 
 returns : tie.Need-returns
 returns c =
-    let value = c.before in
-    let marks = value.before in
-    let flow = marks.before in
-    let parts = flow.before in
-    let s = parts in
-    let i = s.args.d.insn in
+    let i = c.args.d.insn in
     let v : ℕ = value_of (target_parts i.target) in
-    let low = value.value_of.ensures ∙ ap (λ (q : Parts). value_of q % 2 ^ 64) parts.target_parts-t.ensures in
+    let low = c.value_of.ensures ∙ ap (λ (q : Parts). value_of q % 2 ^ 64) c.target_parts-t.ensures in
     in_other_words
-    (λ t. 0 ∷ flow.flow_number.ensures t ∷ marks.marks.ensures t ∷ i.count ∷ low8 value.value_of.result v low t)
+    (λ t. 0 ∷ c.flow_number.ensures t ∷ c.marks.ensures t ∷ i.count ∷ low8 c.value_of.result v low t)
     c.has_four.ensures
 
 pub is_head_spec : {M : Type 1} → statement M

@@ -10,13 +10,10 @@ use Rattle.record.proofs.is_operand.Tie as tie
 
 returns : tie.Need-returns
 returns c =
-    let value = c.before in
-    let parts = value.before in
-    let s = parts in
-    let p : Parts = slot_of s.args.d.insn s.args.k in
-    let e = parts.slot-p.ensures in
-    let r = value.value_of.result in
-    let low = value.value_of.ensures ∙ ap (λ (q : Parts). value_of q % 2 ^ 64) e in
+    let p : Parts = slot_of c.args.d.insn c.args.k in
+    let e = c.slot-p.ensures in
+    let r = c.value_of.result in
+    let low = c.value_of.ensures ∙ ap (λ (q : Parts). value_of q % 2 ^ 64) e in
     in_other_words
     (ap (λ (q : Parts). q.number ∷ q.first ∷ low_bytes 8 r) e
     ∙ ap (λ (m : List ℕ). p.number ∷ p.first ∷ m) (low8 r (value_of p) low))

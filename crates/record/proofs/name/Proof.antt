@@ -7,11 +7,8 @@ use Rattle.record.proofs.name.Tie as tie
 
 returns : tie.Need-returns
 returns c =
-    let put = c.before.before in
-    let name = put.before.before.before in
-    let s = name in
-    let k = s.args.d.insn.mnemonic in
-    first_at 64 (name_bytes k) s.args.out.now (omega (arith, name_long k)) name.name_of.ensures put.put.ensures
+    let k = c.args.d.insn.mnemonic in
+    first_at 64 (name_bytes k) c.args.out.now (omega (arith, name_long k)) c.name_of.ensures c.put.ensures
 
 pub name_spec : {M : Type 1} → statement M
 name_spec = tie.close (tie.spec

@@ -5,9 +5,7 @@ use Rattle.record.proofs.name_in.Tie as tie
 
 returns : tie.Need-returns
 returns c =
-    let ninth = c.before.before.before.before.before.before.before.before in
-    let first = ninth in
-    sym (bytes_at 15 64 first.args.b.now (omega arith))
+    sym (bytes_at 15 64 c.args.b.now (omega arith))
 
 pub name_in_spec : {M : Type 1} → statement M
 name_in_spec = tie.close (tie.spec

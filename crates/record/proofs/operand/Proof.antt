@@ -12,35 +12,25 @@ use Rattle.record.proofs.operand.Tie as tie
 
 returns-then-k-i : tie.Need-returns-then-k-i
 returns-then-k-i c =
-    let value-put = c.before.before in
-    let value = value-put.before.before in
-    let first-put = value.before.before.before in
-    let number_put = first-put.before.before.before.before in
-    let parts = number_put.before.before in
-    let used = parts.before in
-    let s = used in
-    let d = s.args.out.now in
-    let at : ℕ = 24 + s.args.k * 10 in
-    let p : Parts = slot_of s.args.d.insn s.args.k in
-    let e = parts.slot-p.ensures in
-    let low = value.value_of.ensures ∙ ap (λ (q : Parts). value_of q % 2 ^ 64) e in
+    let d = c.args.out.now in
+    let at : ℕ = 24 + c.args.k * 10 in
+    let p : Parts = slot_of c.args.d.insn c.args.k in
+    let e = c.slot-p.ensures in
+    let low = c.value_of.ensures ∙ ap (λ (q : Parts). value_of q % 2 ^ 64) e in
     next_at at (at + 2) (p.number ∷ p.first ∷ []) (low_bytes 8 (value_of p)) d refl (omega arith)
     (next_at at (at + 1) (p.number ∷ []) (p.first ∷ []) d refl (omega arith)
-    (first_at at (p.number ∷ []) d (omega arith) (byte (ap (λ (q : Parts). q.number) e)) number_put.put1.ensures)
-    (byte (ap (λ (q : Parts). q.first) e)) first-put.put1-then-k-i.ensures)
-    (low8 _ (value_of p) low) value-put.put8.ensures
+    (first_at at (p.number ∷ []) d (omega arith) (byte (ap (λ (q : Parts). q.number) e)) c.put1.ensures)
+    (byte (ap (λ (q : Parts). q.first) e)) c.put1-then-k-i.ensures)
+    (low8 _ (value_of p) low) c.put8.ensures
 
 returns-else-k-i : tie.Need-returns-else-k-i
 returns-else-k-i c =
-    let zeros-put = c.before.before in
-    let unused-slot = zeros-put.before.before.before in
-    let s = unused-slot in
-    let i = s.args.d.insn in
-    let k = s.args.k in
+    let i = c.args.d.insn in
+    let k = c.args.k in
     let op = (get_or i.ops k unused).op in
-    first_at (24 + k * 10) (slot_bytes (slot_of i k)) s.args.out.now (omega arith)
-    (sym (ap (λ (b : Bool). slot_bytes (slot_parts b op)) (le-ltb k i.count unused-slot.if-k-i.false)))
-    zeros-put.put.ensures
+    first_at (24 + k * 10) (slot_bytes (slot_of i k)) c.args.out.now (omega arith)
+    (sym (ap (λ (b : Bool). slot_bytes (slot_parts b op)) (le-ltb k i.count c.if-k-i.false)))
+    c.put.ensures
 
 pub operand_spec : {M : Type 1} → statement M
 operand_spec = tie.close (tie.spec

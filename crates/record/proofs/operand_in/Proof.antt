@@ -6,11 +6,10 @@ use Rattle.record.proofs.operand_in.Tie as tie
 
 returns : tie.Need-returns
 returns c =
-    let get = c in
-    let a = get.args in
+    let a = c.args in
     let l = a.b.now in
     ap operand
-    (c.op_by.ensures ∙ ap (op_by (byte_at a.at l) (byte_at (a.at + 1) l)) get.get8.ensures.0)
+    (c.op_by.ensures ∙ ap (op_by (byte_at a.at l) (byte_at (a.at + 1) l)) c.get8.ensures.0)
 
 pub operand_in_spec : {M : Type 1} → statement M
 operand_in_spec = tie.close (tie.spec

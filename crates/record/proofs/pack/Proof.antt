@@ -13,34 +13,24 @@ returns-then-out-lt-SIZE c = rw (lt-ltb _ _ c.if-out-lt-SIZE.true) (refl, refl)
 
 returns-then-d-ne0 : tie.Need-returns-then-d-ne0
 returns-then-d-ne0 c =
-    let put = c.before.before in
-    let refused = put.before.before in
-    let long = refused.before.before in
-    let s = long in
-    let d = s.args.out.now in
-    rw (le-ltb (length d) 80 long.if-out-lt-SIZE.false) (
+    let d = c.args.out.now in
+    rw (le-ltb (length d) 80 c.if-out-lt-SIZE.false) (
       refl,
-      put.refuse.ensures ∙ ap (λ (l : List ℕ). over l d) (sym (refused_bytes s.args.d refused.if-d-ne0.true)),
+      c.refuse.ensures ∙ ap (λ (l : List ℕ). over l d) (sym (refused_bytes c.args.d c.if-d-ne0.true)),
     )
 
 returns : tie.Need-returns
 returns c =
-    let name-put = c.before.before in
-    let operands-put = name-put.before.before.before.before in
-    let front-put = operands-put.before.before.before.before in
-    let accepted = front-put.before.before in
-    let long = accepted.before.before in
-    let s = long in
-    let d = s.args.out.now in
-    let i = s.args.d.insn in
-    let e = accepted.if-d-ne0.false in
+    let d = c.args.out.now in
+    let i = c.args.d.insn in
+    let e = c.if-d-ne0.false in
     let p : List ℕ = head_bytes i ++ effect_bytes i.effect in
-    rw (le-ltb (length d) 80 long.if-out-lt-SIZE.false) (
+    rw (le-ltb (length d) 80 c.if-out-lt-SIZE.false) (
       sym e,
       then_at 0 64 (p ++ operand_bytes i) (name_bytes i.mnemonic) d refl (omega (arith, name_long i.mnemonic))
-          (then_at 0 24 p (operand_bytes i) d refl (omega arith) front-put.front.ensures operands-put.operands.ensures)
-          name-put.name.ensures
-          ∙ at_start (insn_bytes i) d ∙ ap (λ (l : List ℕ). over l d) (sym (accepted_bytes s.args.d e)),
+          (then_at 0 24 p (operand_bytes i) d refl (omega arith) c.front.ensures c.operands.ensures)
+          c.name.ensures
+          ∙ at_start (insn_bytes i) d ∙ ap (λ (l : List ℕ). over l d) (sym (accepted_bytes c.args.d e)),
     )
 
 pub pack_spec : {M : Type 1} → statement M

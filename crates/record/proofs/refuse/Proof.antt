@@ -6,11 +6,9 @@ use Rattle.record.proofs.refuse.Tie as tie
 
 returns : tie.Need-returns
 returns c =
-    let put = c.before.before in
-    let s = put in
-    let d = s.args.out.now in
-    let bytes : List ℕ = number_bytes s.args.n in
-    first_at 0 bytes d (omega arith) refl put.put.ensures ∙ at_start bytes d
+    let d = c.args.out.now in
+    let bytes : List ℕ = number_bytes c.args.n in
+    first_at 0 bytes d (omega arith) refl c.put.ensures ∙ at_start bytes d
 
 pub refuse_spec : {M : Type 1} → statement M
 refuse_spec = tie.close (tie.spec

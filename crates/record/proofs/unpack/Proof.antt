@@ -13,24 +13,17 @@ returns-then-b-lt-SIZE c = rw (lt-ltb _ _ c.if-b-lt-SIZE.true) c.refused.ensures
 
 returns-then-is_record : tie.Need-returns-then-is_record
 returns-then-is_record c =
-    let is = c.before in
-    let says = is.before in
-    let long = says in
-    let l = long.args.b.now in
-    let e = says.insn_in.ensures in
-    let h = subst (λ (i : Insn). Holds i l) e (is.is_record.ensures.0 c.if-is_record.true) in
-    rw (le-ltb (length l) 80 long.if-b-lt-SIZE.false, holds_record l h) (ap accepted_as e)
+    let l = c.args.b.now in
+    let e = c.insn_in.ensures in
+    let h = subst (λ (i : Insn). Holds i l) e (c.is_record.ensures.0 c.if-is_record.true) in
+    rw (le-ltb (length l) 80 c.if-b-lt-SIZE.false, holds_record l h) (ap accepted_as e)
 
 returns-else-is_record : tie.Need-returns-else-is_record
 returns-else-is_record c =
-    let not = c.before in
-    let is = not.before in
-    let says = is.before in
-    let long = says in
-    let l = long.args.b.now in
-    let held = subst (λ (i : Insn). Holds i l) (sym says.insn_in.ensures) in
-    let n : ¬ Holds (insn_in l) l = λ h. false≢true (sym not.if-is_record.false ∙ is.is_record.ensures.1 (held h)) in
-    rw (le-ltb (length l) 80 long.if-b-lt-SIZE.false, not_record l long.if-b-lt-SIZE.false n) c.refused-else-is_record.ensures
+    let l = c.args.b.now in
+    let held = subst (λ (i : Insn). Holds i l) (sym c.insn_in.ensures) in
+    let n : ¬ Holds (insn_in l) l = λ h. false≢true (sym c.if-is_record.false ∙ c.is_record.ensures.1 (held h)) in
+    rw (le-ltb (length l) 80 c.if-b-lt-SIZE.false, not_record l c.if-b-lt-SIZE.false n) c.refused-else-is_record.ensures
 
 pub unpack_spec : {M : Type 1} → statement M
 unpack_spec = tie.close (tie.spec

@@ -20,23 +20,16 @@ loop-n-init c = (omega arith, rw (sub-zero, c.entry_at-free.ensures))
 
 -- the check of what is left, once that of this entry has answered b
 turned : (c : tie.After-good_entry invariant-loop-n decreases-loop-n) (b : Bool) → c.good_entry.result ≡ b →
-    let long = c in
-    let offset = long in
-    let l = offset in
-    let a = l.args in
-    (b && good_from a.file.now (a.count - (l.loop-n.n + 1)) (l.loop-n.n + 1)
-    (offset.number_in-at.result + long.number_in-size.result)) ≡
+    let a = c.args in
+    (b && good_from a.file.now (a.count - (c.loop-n.n + 1)) (c.loop-n.n + 1)
+    (c.number_in-at.result + c.number_in-size.result)) ≡
     good_from a.file.now a.count 0 (entry_at a.count)
 turned c b e =
-    let long = c in
-    let offset = long in
-    let t = offset in
-    let l = t in
-    let a = l.args in
-    turn a.file.now a.count l.loop-n.n l.loop-n.free
-    offset.number_in-at.result long.number_in-size.result c.good_entry.result t.loop-n-test.true
-    offset.number_in-at.ensures.0 long.number_in-size.ensures.0 c.good_entry.ensures b e
-    ∙ l.loop-n.invariant.1
+    let a = c.args in
+    turn a.file.now a.count c.loop-n.n c.loop-n.free
+    c.number_in-at.result c.number_in-size.result c.good_entry.result c.loop-n-test.true
+    c.number_in-at.ensures.0 c.number_in-size.ensures.0 c.good_entry.ensures b e
+    ∙ c.loop-n.invariant.1
 
 returns-then-not-good_entry : tie.Need-returns-then-not-good_entry invariant-loop-n decreases-loop-n
 returns-then-not-good_entry c = turned c.before false c.if-not-good_entry.true
@@ -47,9 +40,8 @@ loop-n-preserved c = (omega arith, turned c.before true c.if-not-good_entry.fals
 returns : tie.Need-returns invariant-loop-n decreases-loop-n
 unfolding good_from
 returns c =
-    let l = c in
-    let e : l.args.count - l.loop-n.n ≡ 0 = omega arith in
-    (rw e at l.loop-n.invariant.1)
+    let e : c.args.count - c.loop-n.n ≡ 0 = omega arith in
+    (rw e at c.loop-n.invariant.1)
 
 pub good_entries_spec : {M : Type 1} → statement M
 good_entries_spec = tie.close (tie.spec

@@ -14,19 +14,16 @@ use Rattle.text.proofs.name.Tie as tie
 
 returns : tie.Need-returns
 returns c =
-    let v = c in
-    let w = v in
-    let a = w.args in
-    let e : take w.name_length-n.result a.b.now ≡ before_zero a.b.now =
-    rw w.name_length-n.ensures (name_front a.b.now) in
-    (w.name_length-n.ensures, v.put.ensures ∙ ap (λ (l : List ℕ). placed a.at l a.out.now) e)
+    let a = c.args in
+    let e : take c.name_length-n.result a.b.now ≡ before_zero a.b.now =
+    rw c.name_length-n.ensures (name_front a.b.now) in
+    (c.name_length-n.ensures, c.put.ensures ∙ ap (λ (l : List ℕ). placed a.at l a.out.now) e)
 
 pub name_spec : {M : Type 1} → statement M
 name_spec = tie.close (tie.spec
     (λ c κs. search rules)
     (λ c.
-    let w = c in
-    let b = w.args.b.now in
-    sym (length-take-le w.name_length-n.result b (omega (arith, name_most b))))
+    let b = c.args.b.now in
+    sym (length-take-le c.name_length-n.result b (omega (arith, name_most b))))
     (λ c κs. search rules) (λ c. search rules)
     returns)
