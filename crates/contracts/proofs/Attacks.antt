@@ -22,7 +22,7 @@ use Rattle.names.specs.Names.{registers}
 use Rattle.buffers.specs.Bytes.{over, over_at}
 use Rattle.buffers.proofs.Laws.{at_start}
 use Rattle.record.specs.Record.{record_of, bytes_by, packed}
-use Rattle.text.specs.Text.{letter, letters, text_of, last_of, numeral_of, decimal_of, address_of, hex_of, glyph_of}
+use Rattle.text.specs.Text.{letter, letters, text_of, last_of, numeral_of, decimal_of, address_of, hex_of}
 use Rattle.line.specs.Line.{plain, register_name, op_text, listed, line_of}
 use Rattle.pages.specs.declared.Paged.{Paged}
 use Rattle.body.specs.Body.{decoded_at}

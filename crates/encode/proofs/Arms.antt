@@ -12,7 +12,7 @@ use Rattle.classes.proofs.Tests.{same_form_lem}
 use Rattle.classes.proofs.Find.{every}
 use Rattle.classes.proofs.Operands.{known, known_table, known_kind}
 use Rattle.inverse.specs.Private.Fill.{part, one_less, filled}
-use Rattle.inverse.specs.Private.Candidate.{least, base, first}
+use Rattle.inverse.specs.Private.Candidate.{base, first}
 use Rattle.inverse.proofs.Tables.{pick_first, pick_every}
 use Rattle.encode.specs.declared.stem.Stem.{Stem}
 use Rattle.encode.specs.Private.Stem.{plan_of, Serves, Roomy, IsIn, Is}

@@ -5,7 +5,6 @@ use Prim.Native.String.{String}
 use Rattle.reading.specs.declared.Op.{Op}
 use Rattle.reading.specs.declared.Op.TheVariants.{Reg, Imm, Addr}
 use Rattle.reading.specs.declared.Target.TheVariants as target
-use Rattle.reading.specs.declared.Insn.{Insn}
 use Rattle.reading.specs.declared.Decoded.{Decoded}
 use Rattle.reading.specs.Reading.{refused_of}
 use Rattle.reading.specs.Kind as kind

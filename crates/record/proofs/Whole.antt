@@ -1,5 +1,5 @@
 -- When the reading that 80 bytes say is packed into those bytes again.
-use Rattle.std.proofs.Common.{◌≡◌, ℕ, suc, ◌+◌, ◌<◌, ◌≤◌, Bool, true, false, ltb, ◌⊎◌, List, ◌++◌, length, take, sym, refl, ap, ◌∙◌, subst, inl, inr, arith, leb→le, lt-ltb}
+use Rattle.std.proofs.Common.{◌≡◌, ℕ, suc, ◌<◌, ◌≤◌, Bool, true, false, ltb, ◌⊎◌, List, ◌++◌, length, take, sym, refl, ap, ◌∙◌, subst, inl, inr, arith, leb→le, lt-ltb}
 use Rattle.reading.specs.declared.Insn.{Insn}
 use Rattle.reading.specs.Kind.{many}
 use Rattle.laws.proofs.Tests.{and_l, and_r, at_true}

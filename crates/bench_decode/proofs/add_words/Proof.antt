@@ -1,5 +1,5 @@
 -- `bench_decode::add_words` is safe and ends: each turn leaves four bytes less.
-use Rattle.std.proofs.Common.{◌-◌, ◌≤◌, length, arith, rules}
+use Rattle.std.proofs.Common.{◌-◌, ◌≤◌, length, rules}
 use Rattle.bench_decode.proofs.add_words.Statement.{statement}
 use Rattle.bench_decode.proofs.add_words.Tie as tie
 

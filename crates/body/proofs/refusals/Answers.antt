@@ -1,7 +1,7 @@
-use Rattle.std.proofs.Common.{◌-◌, ◌<◌, sym, ap, ◌∙◌, ⊎_elim, arith, rules}
+use Rattle.std.proofs.Common.{◌<◌, sym, ap, ◌∙◌, arith}
 use Rattle.reading.specs.declared.Decoded.{Decoded}
 use Rattle.body.specs.Body.{words_in}
-use Rattle.body.proofs.Words.{Counting, none_yet, all_counted, one_more, no_more}
+use Rattle.body.proofs.Words.{none_yet, all_counted, one_more, no_more}
 use Rattle.body.proofs.refusals.Goals as goal
 use Rattle.body.proofs.refusals.Goals.{then-d-ne0, else-d-ne0}
 

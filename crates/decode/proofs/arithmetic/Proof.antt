@@ -1,11 +1,10 @@
 use Prim.Native.Nat.{ℕ}
 use mathlib.Core.Path.{refl, sym, subst}
-use mathlib.Core.List.{[]}
 use borrow.Author.Rules.{rules}
 use Rattle.word.specs.Word.{rs, rt, funct}
 use Rattle.classes.specs.Meaning.{meaning}
 use Rattle.decode.specs.Private.Groups.{NoneOf, arithmetics}
-use Rattle.decode.proofs.Arms.{row_by, taken, arm, arm_if, arm_else}
+use Rattle.decode.proofs.Arms.{row_by, arm, arm_if, arm_else}
 use Rattle.decode.proofs.arithmetic.Statement.{statement}
 use Rattle.decode.proofs.arithmetic.Tie as tie
 

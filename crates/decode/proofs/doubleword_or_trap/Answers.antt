@@ -3,14 +3,13 @@ use mathlib.Core.Path.{◌≡◌, refl, sym, ◌∙◌, subst}
 use mathlib.Core.Bool.{Bool, true, false}
 use mathlib.Core.Logic.{◌⊎◌, inl, inr, ⊎_elim}
 use mathlib.Core.List.{List, [], ◌∷◌}
-use borrow.Author.Rules.{rules}
 use Rattle.word.specs.Word.{fields_of, op, rt, funct}
 use Rattle.reading.specs.Kind as kind
 use Rattle.classes.specs.Meaning.{meaning}
 use Rattle.forms.specs.declared.Shape.TheVariants.{RdRsRt}
 use Rattle.decode.specs.Private.Groups.{Is, Group, NoneOf, arithmetics, moves, shifts}
 use Rattle.decode.proofs.Facts.{◌≐◌, ◌is_none_of◌}
-use Rattle.decode.proofs.Arms.{row_by, number_by, taken, left_over, arm, arm_if, arm_else}
+use Rattle.decode.proofs.Arms.{row_by, number_by, left_over, arm, arm_if, arm_else}
 use Rattle.decode.proofs.doubleword_or_trap.Goals as goal
 
 abbrev keys : List ℕ

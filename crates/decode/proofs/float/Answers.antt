@@ -3,7 +3,6 @@ use mathlib.Core.Path.{◌≡◌, subst}
 use mathlib.Core.Bool.{Bool}
 use mathlib.Core.Logic.{inl, inr}
 use native.Mathlib.Omega.{arith}
-use borrow.Author.Rules.{rules}
 use Rattle.word.specs.Word.{fields_of, funct}
 use Rattle.decode.specs.declared.FloatOps.{FloatOps}
 use Rattle.decode.specs.Private.Groups.{Is, NoneOf}

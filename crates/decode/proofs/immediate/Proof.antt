@@ -1,11 +1,10 @@
 use Prim.Native.Nat.{ℕ}
 use mathlib.Core.Path.{refl, sym, ◌∙◌, subst}
-use mathlib.Core.List.{[]}
 use borrow.Author.Rules.{rules}
 use Rattle.word.specs.Word.{rs}
 use Rattle.classes.specs.Meaning.{meaning}
 use Rattle.decode.specs.Private.Groups.{NoneOf, immediates}
-use Rattle.decode.proofs.Arms.{row_by, taken, op_arm, op_else, arm}
+use Rattle.decode.proofs.Arms.{row_by, op_arm, op_else, arm}
 use Rattle.decode.proofs.immediate.Statement.{statement}
 use Rattle.decode.proofs.immediate.Tie as tie
 

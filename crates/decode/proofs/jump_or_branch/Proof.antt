@@ -1,11 +1,10 @@
 use Prim.Native.Nat.{ℕ}
 use mathlib.Core.Path.{refl, sym, ◌∙◌, subst}
-use mathlib.Core.List.{[]}
 use borrow.Author.Rules.{rules}
 use Rattle.word.specs.Word.{rs, rt}
 use Rattle.classes.specs.Meaning.{meaning, reading, outs, flow_of, target_in, mark_of, effect_of}
 use Rattle.decode.specs.Private.Groups.{NoneOf, branches}
-use Rattle.decode.proofs.Arms.{row_by, taken, op_arm, op_else, arm, arm_if, arm_else}
+use Rattle.decode.proofs.Arms.{row_by, op_arm, op_else, arm, arm_if, arm_else}
 use Rattle.decode.proofs.jump_or_branch.Statement.{statement}
 use Rattle.decode.proofs.jump_or_branch.Tie as tie
 

@@ -1,6 +1,5 @@
 use Prim.Native.Nat.{ℕ}
 use mathlib.Core.Path.{refl, sym, subst}
-use mathlib.Core.List.{[]}
 use Rattle.word.specs.Word.{funct}
 use Rattle.classes.specs.Meaning.{meaning, reading, outs, flow_of, target_in, mark_of, effect_of}
 use Rattle.decode.specs.Private.Groups.{NoneOf, moves}

@@ -4,7 +4,7 @@ use mathlib.Core.List.{List, [], ◌∷◌}
 use borrow.Author.Rules.{rules}
 use Rattle.word.specs.Word.{rs, rt}
 use Rattle.classes.specs.Meaning.{meaning, reading, outs, flow_of, target_in, mark_of, effect_of}
-use Rattle.decode.proofs.Arms.{row_by, number_by, taken, arm, arm_if, arm_else, arm_rest}
+use Rattle.decode.proofs.Arms.{row_by, number_by, arm, arm_if, arm_else, arm_rest}
 use Rattle.decode.proofs.regimm.Statement.{statement}
 use Rattle.decode.proofs.regimm.Tie as tie
 

@@ -1,16 +1,14 @@
 -- `line::fill` meets its contract: after k turns the mnemonic and k operands are written.
 use borrow.Author.Rules.{rules}
 use mathlib.Core.Path.{◌≡◌}
-use Prim.Native.Nat.{◌-◌}
 use native.Mathlib.Omega.{arith}
-use lib.ListN.{length, length-map}
-use Rattle.reading.specs.declared.Insn.{Insn}
+use lib.ListN.{length}
 use Rattle.reading.specs.Names.{name_of}
 use Rattle.buffers.specs.Writes.{Wrote}
 use Rattle.text.specs.Text.{text_of}
 use Rattle.line.specs.Line.{plain, longest_mnemonic, longest}
 use Rattle.line.proofs.Names.{mnemonic_wrote}
-use Rattle.line.proofs.Operands.{Turn, begins, turn, ends, line_of_lem, room, next_room, next_registered}
+use Rattle.line.proofs.Operands.{begins, turn, ends, line_of_lem, room, next_room, next_registered}
 use Rattle.line.proofs.fill.Goals as goal
 use Rattle.line.proofs.fill.Goals.{After-name-at}
 

@@ -1,5 +1,4 @@
 -- `line::print` meets its contract: no line, no room, and a line that fits.
-use borrow.Author.Rules.{rules}
 use mathlib.Core.Path.{◌≡◌, refl, sym, ◌∙◌}
 use mathlib.Core.Bool.{true, false}
 use Prim.Native.Nat.{◌≤◌}

@@ -1,10 +1,10 @@
 -- `line::printable` meets its contract: after k turns it is known of the first k operands.
 use borrow.Author.Rules.{rules}
 use borrow.Author.Tests.{lt-ltb, le-ltb, le-leb, lt-leb}
-use mathlib.Core.Path.{◌≡◌, refl, sym, ◌∙◌}
-use Prim.Native.Nat.{◌≤◌, ◌-◌}
+use mathlib.Core.Path.{◌≡◌, sym, ◌∙◌}
+use Prim.Native.Nat.{◌≤◌}
 use native.Mathlib.Omega.{arith}
-use lib.ListN.{length, length-map}
+use lib.ListN.{length}
 use Rattle.reading.specs.Kind.{many}
 use Rattle.reading.specs.declared.Insn.{Insn}
 use Rattle.line.specs.Line.{all_registered, printable}

@@ -1,4 +1,3 @@
-use borrow.Author.Rules.{rules}
 use Rattle.listing.proofs.Texts.{head_is}
 use Rattle.listing.proofs.head.Goals as goal
 

@@ -1,4 +1,3 @@
-use borrow.Author.Rules.{rules}
 use Rattle.listing.proofs.Texts.{total_is}
 use Rattle.listing.proofs.total.Goals as goal
 

@@ -1,11 +1,8 @@
-use borrow.Author.Rules.{rules}
-use Prim.Native.Nat.{◌-◌}
 use mathlib.Core.Path.{refl}
-use mathlib.Core.Logic.{⊎_elim}
 use native.Mathlib.Omega.{arith}
 use Rattle.line.specs.Line.{plain}
 use Rattle.pages.specs.Page.{word_line, page_words, page_bytes}
-use Rattle.pages.proofs.Loop.{Turn, Ends, start, went, stopped, all}
+use Rattle.pages.proofs.Loop.{Ends, start, went, stopped, all}
 use Rattle.pages.proofs.Pieces.{line_some}
 use Rattle.pages.proofs.lines.Goals as goal
 use Rattle.pages.proofs.lines.Goals.{Left-loop-k, else-loop-k-test, then-loop-k-test+then-size-eq0}
