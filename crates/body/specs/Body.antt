@@ -1,5 +1,6 @@
 -- The words of a body: how many there are, where each stands, and what it is read as.
-use Rattle.std.specs.Prelude.{ℕ, zero, suc, ◌+◌, ◌*◌, ◌/◌, ◌%◌, ◌^◌, Bool, cond, not, List, length, take, drop, ◌==◌, nat_lt}
+use Rattle.std.specs.Prelude.{ℕ, zero, suc, ◌+◌, ◌*◌, ◌/◌, ◌%◌, ◌^◌, Bool, cond, not, List, length, take, drop, ◌==◌}
+use Rattle.std.specs.Prelude.{nat_lt}
 use Rattle.word.specs.Numbers.{word_in}
 use Rattle.reading.specs.declared.Decoded.{Decoded}
 use Rattle.decode.specs.Bytes.{decoded_in}

@@ -1,6 +1,6 @@
 // The boundary for programs in C: decoding and encoding through byte records, printed lines, section files, blocks,
 // pages and listings. Every function that C may call is here, and nothing else; include/calmuredda.h describes them
-// for C. `rt staticlib calmuredda` makes libcalmuredda.a of this crate. specs/Boundary.antt says what the answers mean.
+// for C. Crate `calmuredda_c` exports them, as libcalmuredda.a. specs/Boundary.antt says what the answers mean.
 // Where an answer is more than one number, C lends a place for each of the others, which is written whatever the answer
 // is.
 #![tactic(auto)]

@@ -1,5 +1,6 @@
 -- Which words a row takes, and what it makes of their fields.
-use Rattle.std.specs.Prelude.{ℕ, ◌+◌, ◌%◌, Bool, true, false, not, cond, ◌&&◌, List, [], ◌∷◌, eqb, leb, ℤ, pos, negsuc, length}
+use Rattle.std.specs.Prelude.{ℕ, ◌+◌, ◌%◌, Bool, true, false, not, cond, ◌&&◌, List, [], ◌∷◌, eqb, leb, ℤ, pos, negsuc}
+use Rattle.std.specs.Prelude.{length}
 use Rattle.std.proofs.Math.Option.{Option, none, some}
 use Rattle.word.specs.Word.{Field, op, rs, rt, rd, sa, funct, Fields}
 use Rattle.word.specs.Numbers.{imm, index, signed, branch_to, jump_to, upper, size_of}

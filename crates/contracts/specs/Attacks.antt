@@ -64,7 +64,9 @@ pub record Lists (κs : Lfts 2) (body : Bor (List ℕ)) (out : MutBor (List ℕ)
 
 -- an untouched page
 abbrev pub UntouchedPage : Type 0
-UntouchedPage = (κs : Lfts 2) (body : Bor (List ℕ)) (out : MutBor (List ℕ)) (x : Paged) → ¬ Lists κs body out x (replicate 300 0)
+UntouchedPage =
+    (κs : Lfts 2) (body : Bor (List ℕ)) (out : MutBor (List ℕ)) (x : Paged) →
+    ¬ Lists κs body out x (replicate 300 0)
 
 -- a true first line and mere spaces below
 abbrev pub SpacesBelow : Type 0
@@ -75,12 +77,14 @@ SpacesBelow =
 -- invented words: more than there are
 abbrev pub InventedWords : Type 0
 InventedWords =
-    (κs : Lfts 2) (body : Bor (List ℕ)) (out : MutBor (List ℕ)) (x : Paged) (l : List ℕ) → 6 < x.words → ¬ Lists κs body out x l
+    (κs : Lfts 2) (body : Bor (List ℕ)) (out : MutBor (List ℕ)) (x : Paged) (l : List ℕ) → 6 < x.words →
+    ¬ Lists κs body out x l
 
 -- invented bytes: something after the last line
 abbrev pub InventedBytes : Type 0
 InventedBytes =
-    (κs : Lfts 2) (body : Bor (List ℕ)) (out : MutBor (List ℕ)) (x : Paged) (l : List ℕ) → ¬ (get_or l 299 0 ≡ 0) → ¬ Lists κs body out x l
+    (κs : Lfts 2) (body : Bor (List ℕ)) (out : MutBor (List ℕ)) (x : Paged) (l : List ℕ) →
+    ¬ (get_or l 299 0 ≡ 0) → ¬ Lists κs body out x l
 
 -- while the six lines and six words do meet it
 abbrev pub RightPage : Type 0

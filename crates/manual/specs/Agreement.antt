@@ -1,6 +1,7 @@
 -- DEMAND 2 AGAINST THE MANUALS: the source and the manuals agree on a word, at any address and under either width flag,
 -- exactly if no exception covers it. The proofs are in proofs/Proved.antt.
-use Rattle.std.specs.Prelude.{ℕ, ◌+◌, ◌%◌, ◌^◌, ◌≤◌, ◌≡◌, Bool, true, false, cond, ◌||◌, List, [], ◌∷◌, map, ◌⊎◌, T, leb, take}
+use Rattle.std.specs.Prelude.{ℕ, ◌+◌, ◌%◌, ◌^◌, ◌≤◌, ◌≡◌, Bool, true, false, cond, ◌||◌, List, [], ◌∷◌, map, ◌⊎◌, T}
+use Rattle.std.specs.Prelude.{leb, take}
 use Rattle.std.proofs.Math.Option.{Option, none, some}
 use Rattle.word.specs.Word.{Fields, fields_of}
 use Rattle.reading.specs.declared.Op.{Op}

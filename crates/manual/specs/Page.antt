@@ -1,6 +1,7 @@
 -- A page of the manual: its name, the drawing of its encoding, its Format lines and its Restrictions. What a line says
 -- of a word.
-use Rattle.std.specs.Prelude.{ℕ, ◌+◌, ◌*◌, ◌/◌, ◌%◌, ◌^◌, Bool, true, false, not, cond, ◌&&◌, ◌||◌, List, [], ◌∷◌, map, eqb, leb, ℤ, pos}
+use Rattle.std.specs.Prelude.{ℕ, ◌+◌, ◌*◌, ◌/◌, ◌%◌, ◌^◌, Bool, true, false, not, cond, ◌&&◌, ◌||◌, List, [], ◌∷◌, map}
+use Rattle.std.specs.Prelude.{eqb, leb, ℤ, pos}
 use Prim.Native.String.{String}
 use Rattle.word.specs.Word.{Field, same_field, op, rs, rt, rd, sa, funct, Fields, room}
 use Rattle.word.specs.Numbers.{signed, branch_to, jump_to, size_of}

@@ -1,5 +1,6 @@
 -- THE PACKED RECORD: the 80 bytes of the answer to a word, and what a writer of them leaves in a lent buffer.
-use Rattle.std.specs.Prelude.{ℕ, zero, suc, ◌+◌, ◌*◌, Bool, true, false, cond, List, ◌∷◌, ◌++◌, length, replicate, pos, nat_lt, slice_index_or}
+use Rattle.std.specs.Prelude.{ℕ, zero, suc, ◌+◌, ◌*◌, Bool, true, false, cond, List, ◌∷◌, ◌++◌, length, replicate, pos}
+use Rattle.std.specs.Prelude.{nat_lt, slice_index_or}
 use Rattle.refusal.specs.Numbers as refusal
 use Rattle.reading.specs.declared.Op.{Op}
 use Rattle.reading.specs.declared.Effect.{Effect}
@@ -44,7 +45,8 @@ slot_bytes p = p.number ∷ p.first ∷ low_bytes 8 (value_of p)
 
 -- 24 to 63: the four operands
 abbrev pub operand_bytes : Insn → List ℕ
-operand_bytes i = slot_bytes (slot_of i 0) ++ slot_bytes (slot_of i 1) ++ slot_bytes (slot_of i 2) ++ slot_bytes (slot_of i 3)
+operand_bytes i =
+    slot_bytes (slot_of i 0) ++ slot_bytes (slot_of i 1) ++ slot_bytes (slot_of i 2) ++ slot_bytes (slot_of i 3)
 
 -- 64 to 79: the mnemonic's text, then zeros
 abbrev pub insn_bytes : Insn → List ℕ

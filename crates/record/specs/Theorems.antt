@@ -1,5 +1,6 @@
 -- WHAT PACKING AND UNPACKING SAY OF EACH OTHER.
-use Rattle.std.specs.Prelude.{◌≡◌, ℕ, ◌^◌, ◌<◌, ◌≤◌, Bool, List, ◌++◌, length, get_or, take, ℤ, pos, negsuc, slice_index_or}
+use Rattle.std.specs.Prelude.{◌≡◌, ℕ, ◌^◌, ◌<◌, ◌≤◌, Bool, List, ◌++◌, length, get_or, take, ℤ, pos, negsuc}
+use Rattle.std.specs.Prelude.{slice_index_or}
 use Rattle.reading.specs.declared.Insn.{Insn}
 use Rattle.reading.specs.declared.Decoded.{Decoded}
 use Rattle.reading.specs.declared.Parts.{Parts}

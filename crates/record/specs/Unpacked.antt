@@ -1,5 +1,6 @@
 -- WHAT A RECORD IS UNPACKED TO, for any bytes at all.
-use Rattle.std.specs.Prelude.{ℕ, ◌+◌, ◌/◌, ◌%◌, Bool, cond, ◌&&◌, List, [], ◌∷◌, length, get_or, take, drop, ℤ, ◌==◌, nat_lt, slice_index, slice_index_or}
+use Rattle.std.specs.Prelude.{ℕ, ◌+◌, ◌/◌, ◌%◌, Bool, cond, ◌&&◌, List, [], ◌∷◌, length, get_or, take, drop, ℤ, ◌==◌}
+use Rattle.std.specs.Prelude.{nat_lt, slice_index, slice_index_or}
 use Rattle.refusal.specs.Numbers as refusal
 use Rattle.word.specs.Numbers.{signed}
 use Rattle.reading.specs.declared.Op.{Op}
@@ -27,7 +28,8 @@ byte_at at l = slice_index l at
 -- by their numbers, in the source's order
 
 abbrev pub op_by : ℕ → ℕ → ℕ → Op
-op_by n r v = slice_index_or (Reg 0 ∷ Reg r ∷ FReg r ∷ Imm (signed 64 v) ∷ Mem (signed 64 v) r ∷ Addr v ∷ Cop0 r ∷ []) n (Reg 0)
+op_by n r v =
+    slice_index_or (Reg 0 ∷ Reg r ∷ FReg r ∷ Imm (signed 64 v) ∷ Mem (signed 64 v) r ∷ Addr v ∷ Cop0 r ∷ []) n (Reg 0)
 
 abbrev pub effect_by : ℕ → ℕ → ℕ → ℕ → ℕ → Effect
 effect_by n a b s v =
@@ -36,7 +38,8 @@ effect_by n a b s v =
     effect.None
 
 abbrev pub flow_by : ℕ → Flow
-flow_by n = slice_index_or (flow.None ∷ flow.Call ∷ flow.Jump ∷ flow.CondJump ∷ flow.Ret ∷ flow.Interrupt ∷ []) n flow.None
+flow_by n =
+    slice_index_or (flow.None ∷ flow.Call ∷ flow.Jump ∷ flow.CondJump ∷ flow.Ret ∷ flow.Interrupt ∷ []) n flow.None
 
 -- bit 1 of the byte of marks says whether there is a target
 abbrev pub target_by : ℕ → ℕ → Target

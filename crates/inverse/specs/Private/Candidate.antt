@@ -1,5 +1,6 @@
 -- The word that an encoder tries for a reading: the row by the mnemonic, and its least word with the operands put in.
-use Rattle.std.specs.Prelude.{ℕ, ◌+◌, ◌^◌, ◌≡◌, Bool, false, not, cond, ◌&&◌, ◌||◌, List, [], ◌∷◌, eqb, ltb, ℤ, pos, negsuc, get_or}
+use Rattle.std.specs.Prelude.{ℕ, ◌+◌, ◌^◌, ◌≡◌, Bool, false, not, cond, ◌&&◌, ◌||◌, List, [], ◌∷◌, eqb, ltb, ℤ, pos}
+use Rattle.std.specs.Prelude.{negsuc, get_or}
 use Rattle.std.proofs.Math.Option.{Option, none, some}
 use Rattle.word.specs.Word.{Fields, word}
 use Rattle.reading.specs.declared.Op.{Op}
