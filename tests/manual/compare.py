@@ -333,7 +333,7 @@ LEFT_OUT = (
 
 FORBIDDEN = (
     Forbidden(
-        "jalr_same_register", BOTH, named("jalr jalr.hb"), fields_are("Rs Rd", lambda rs, rd: rs == rd),
+        "jalr-same-register", BOTH, named("jalr jalr.hb"), fields_are("Rs Rd", lambda rs, rd: rs == rd),
         "jalr, jalr.hb: rs is rd",
     ),
     Forbidden(

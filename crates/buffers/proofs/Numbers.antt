@@ -1,5 +1,5 @@
 -- Numbers as bytes, the lowest first: a number's own bytes, and a number that is made of two.
--- How: a number is made of its two halves, down to a byte, by one law over their sizes (`stands-join`). A row of writes
+-- How: a number is made of its two halves, down to a byte, by one law over their sizes (`stands_join`). A row of writes
 -- is one write (Laws.antt, Writes.antt).
 use mathlib.Core.Path.{◌≡◌, refl, sym, ap, ◌∙◌}
 use mathlib.Core.List.{List, [], ◌∷◌, ◌++◌}

@@ -29,7 +29,7 @@ pub record HasRecord (l : List ℕ) (va : ℕ) (wide : Bool) (w : ℕ) : Type 0 
   pub accepted : (decoded_of w va wide).number ≡ 0
   pub packed : record_of (decoded_of w va wide) ≡ take size l
 
--- short-record and word 0 for fewer than 80 bytes; else number 0 and the smallest word that has the record, or no_word
+-- short_record and word 0 for fewer than 80 bytes; else number 0 and the smallest word that has the record, or no_word
 -- and word 0 if no word has it
 pub data EncodesRecord (l : List ℕ) (va : ℕ) (wide : Bool) (r : ℕ) : Type 0 where
   short : length l < size → r ≡ answer refusal.short_record 0 → EncodesRecord l va wide r

@@ -1,5 +1,5 @@
-// The functions that C calls, as libcalmuredda_c.a exports them: each is the function of that name in crate
-// `calmuredda`, and promises what that one promises. include/calmuredda.h describes them for C.
+// The functions that C calls: each is the function of that name in crate `calmuredda`, and promises what that one
+// promises. include/calmuredda.h describes them for C. tools/archive builds this crate, as libcalmuredda.a.
 #![tactic(auto)]
 
 ghost use Rattle.std.specs.Prelude.{◌≡◌, length};

@@ -3,7 +3,7 @@
 -- computed, shows that each word is in exactly one box of the two tables (Cover.antt, Accepts.antt; the walk itself is
 -- Walk.antt of crate `laws`). The laws hold for any two tables that pass the computed test `exact`. The other rules are
 -- a computed test of each row and a law that turns it into the statement for every word. For whatever is said of every
--- word's reading, here and in the crates above, that law is `reading-by` (Find.antt), for any tables.
+-- word's reading, here and in the crates above, that law is `reading_by` (Find.antt), for any tables.
 use mathlib.Core.Path.{refl}
 use mathlib.Core.Bool.{Bool, true, false}
 use Rattle.laws.specs.Lists.{elem}

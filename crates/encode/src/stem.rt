@@ -1,6 +1,6 @@
 // A class as the encoder sees it: its least word, and by the variant what is put into it. A variant has the name of a
-// form of the table of classes, and serves every form whose operands go into the same fields: `RtCop0` for `rt-fs` and
-// `rt-hwr` too, `RtImm` for `rt-uimm`, `RtBase` for `ft-base` and `hint-base`, `RdRt` for `fs-ft`.
+// form of the table of classes, and serves every form whose operands go into the same fields: `RtCop0` for `rt_fs` and
+// `rt_hwr` too, `RtImm` for `rt_uimm`, `RtBase` for `ft_base` and `hint_base`, `RdRt` for `fs_ft`.
 
 #[derive(Clone, Copy)]
 pub(crate) enum Stem {

@@ -1,11 +1,11 @@
 -- What specs/Theorems.antt states, proved: for any tables that pass the test, and for those of the definition. And what
 -- an encoder has to do: try the candidate, read it back and compare.
 -- How: each operand puts bits into a word (`part`, one line for each way of making an operand,
--- specs/Private/Fill.antt), and the operands of a word put its own fields back (`fill-law`, Fill.antt). So the operands
+-- specs/Private/Fill.antt), and the operands of a word put its own fields back (`fill_law`, Fill.antt). So the operands
 -- of a row tell the fields that they are made of, which is `same` (Same.antt). Put into the row's least word, they give
--- a word of the row that is no larger than the one they came from (`own`, Rows.antt), or of its twin (`twin-within`,
+-- a word of the row that is no larger than the one they came from (`own`, Rows.antt), or of its twin (`twin_within`,
 -- Twins.antt). If any word has a reading, the candidate of the mnemonic's first fitting row then has it and is the
--- smallest (`smallest-law`, Smallest.antt). Its fields are those of the word where the row reads them, and the least
+-- smallest (`smallest_law`, Smallest.antt). Its fields are those of the word where the row reads them, and the least
 -- elsewhere (`restored`, Restored.antt), which is `least`; Later.antt says when that row is the word's own.
 -- The test is `good` (Good.antt): each word is in one row or refused (`exact`); a row's operands are made of exactly
 -- the fields that it reads, none twice, at most four; the values of its other fields can be the least ones; and a row

@@ -1,6 +1,6 @@
 -- What specs/Theorems.antt states, proved.
 -- How: a run of lines is a list of them (Rows.antt of crate `pages`), which has both their bytes and their number. A
--- piece and what is left after it are what was left before (`piece-rest`, Rest.antt).
+-- piece and what is left after it are what was left before (`piece_rest`, Rest.antt).
 use Prim.Native.Nat.{ℕ, zero, suc, ◌+◌, ◌*◌, ◌-◌, ◌%◌, ◌^◌, ◌<◌, ◌≤◌}
 use mathlib.Core.Path.{◌≡◌, sym, ap, ◌∙◌}
 use mathlib.Core.List.{List, [], ◌∷◌, ◌++◌, append_assoc, append-nil}

@@ -3,7 +3,7 @@
 -- decides on what is left (`verdict`, Verdict.antt): the line and the row have the same name and the same operands, or
 -- an exception is left and the two clearly differ. Relations between two fields (rs = rd) are further axes of the walk
 -- (Axes.antt). antt computes it once under each flag (Tables.antt); the law that turns it into the statement holds for
--- any four tables that pass (`sound-at`, Computed.antt). The same walk tests what comes back when a word is encoded
+-- any four tables that pass (`sound_at`, Computed.antt). The same walk tests what comes back when a word is encoded
 -- again (`restores`, Swaps.antt): which row the encoder picks for the line's words, and that each field which that row
 -- does not read has its least value in all of them.
 use Prim.Native.Nat.{ℕ, ◌+◌, ◌^◌, ◌≤◌}

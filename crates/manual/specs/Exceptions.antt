@@ -1,5 +1,5 @@
 -- THE DIFFERENCES between the manuals and the source, each under a name: the words that it covers, and what the source
--- answers there. One more, which depends on a word's address, is `target-past-pc` in Agreement.antt.
+-- answers there. One more, which depends on a word's address, is `target_past_pc` in Agreement.antt.
 -- docs/DIFFERENCES.md has them under the same names, with an example and the manual's words.
 use Rattle.std.specs.Prelude.{ℕ, ◌+◌, Bool, true, false, ◌&&◌, ◌||◌, not, List, [], ◌∷◌, ◌++◌}
 use Rattle.word.specs.Word.{Field, op, rs, rt, rd, sa, funct, Fields}

@@ -36,7 +36,7 @@ unfolding kind_in
 later s ss k l e f =
     record { at = suc f.at; inside = omega arith; kind = rw e (f.kind ∙ omega arith); bytes = f.bytes }
 
--- no name is kind-or-none, or one at some place
+-- no name is `kind_or_none`, or one at some place
 finds : (ss : List String) (k : ℕ) (l : List ℕ) → (kind_in ss k l ≡ no_kind) ⊎ FoundAt ss k l
 unfolding kind_in
 finds [] k l = inl refl

@@ -1,5 +1,5 @@
 -- The mnemonic kinds: a number for each mnemonic, in the order of the manual's opcode tables. A point in a mnemonic is
--- a hyphen here: `add-s` is add.s. They follow from the list in Names.antt, which is where a mnemonic is added.
+-- an underscore here: `add_s` is add.s. They follow from the list in Names.antt, which is where a mnemonic is added.
 use Rattle.std.specs.Prelude.{ℕ, zero, suc, ◌+◌, ◌≡◌, List, [], ◌∷◌}
 
 -- ── written by tools/name_tables ──

@@ -1,5 +1,5 @@
 -- What specs/Theorems.antt states, proved.
--- How: a row of writes, each right after the one before, is one write of all their bytes (`next-at`, `then_at`,
+-- How: a row of writes, each right after the one before, is one write of all their bytes (`next_at`, `then_at`,
 -- Laws.antt of crate `buffers`). Unpacking reads each part by its number and then compares every byte but the name's
 -- with what the reading would be packed to; the name was compared when its kind was found.
 use Rattle.std.proofs.Common.{◌≡◌, ℕ, zero, suc, ◌<◌, ◌≤◌, Bool, true, false, cond, ltb, List, [], ◌++◌, length, take, sym, refl, ap, ◌∙◌, subst, arith, length-append, take_at, le-ltb}
