@@ -145,20 +145,26 @@ def wrong_with_lists(root):
             yield f"crates.txt: {crate.name} names {name} and does not list it"
 
 
+def names_in(root, crates):
+    """The public functions of these crates, as crate::function."""
+    return [f"{crate}::{function.name}" for crate in crates for function in public_functions(root, crate)]
+
+
 def main():
     root = Path(sys.argv[1])
     crates = libraries(root)
-    public = [f"{crate}::{function.name}" for crate in crates for function in public_functions(root, crate)]
+    public = names_in(root, crates)
+    exports = names_in(root, static_libraries(root))
     edits = edits_of(root)
     wrong = [line for crate in crates for line in wrong_with_library(root, crate)]
     wrong += [line for crate in static_libraries(root) for line in wrong_with_exports(root, crate)]
-    wrong += [*wrong_with_uses(root), *wrong_with_lists(root), *wrong_with_edits(root, edits, public)]
+    wrong += [*wrong_with_uses(root), *wrong_with_lists(root), *wrong_with_edits(root, edits, public, exports)]
     if wrong:
         sys.exit("\n".join(wrong))
     in_gate = sum(edit.in_gate for edit in edits)
     print(
         f"{len(public)} public functions, each with a theorem and {FEWEST_WRONG} wrong answers or more; "
-        f"{len(edits)} edits, {in_gate} of them in the gate"
+        f"{len(exports)} exports, which promise the same; {len(edits)} edits, {in_gate} of them in the gate"
     )
 
 

@@ -18,10 +18,12 @@ MOST_OF_CODE_IN_GATE = 2
 CHANGEABLE = ("src/", "specs/")
 
 
-def wrong_with_edits(root, edits, public):
-    """What is wrong with the edits of a repository that has these public functions (crate::function)."""
+def wrong_with_edits(root, edits, public, exports):
+    """What is wrong with the edits of a repository that has these public functions (crate::function), and these exports
+    for C, which promise what public functions do."""
     for edit in edits:
-        yield from (f"{edit.path.relative_to(root)}: {text}" for text in wrong_with_edit(root, edit, public))
+        known = [*public, *exports]
+        yield from (f"{edit.path.relative_to(root)}: {text}" for text in wrong_with_edit(root, edit, known))
     for name, times in collections.Counter(edit.name for edit in edits).items():
         if times > 1:
             yield f"{times} edits are called {name}"
