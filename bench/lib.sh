@@ -86,10 +86,11 @@ added() {
     all_told=$((with - count))
 }
 
-# alone RUN NAME FUNCTION: the instructions spent in the function and what it calls; valgrind only.
+# alone RUN NAME FUNCTION: the instructions spent in the function and what it calls; valgrind only. A generic function's
+# name goes on with its types.
 alone() {
     callgrind_annotate --inclusive=yes --threshold=100 "$out/$1.$2.calls1" | sed 's/,//g' |
-        awk -v function_name="$3 [" 'index($0, function_name) {print $1; exit}'
+        awk -v plain="$3 [" -v generic="$3::<" 'index($0, plain) || index($0, generic) {print $1; exit}'
 }
 
 # measure RUN NAME FUNCTION..: sets all_told, and in_function, with valgrind what the functions take, none of which

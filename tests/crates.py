@@ -9,6 +9,12 @@ Crate = collections.namedtuple("Crate", "name says lists is_static")
 Function = collections.namedtuple("Function", "path seen name contract")
 
 FUNCTION = re.compile(r"^(pub(?:\(crate\))? )?(?:extern \"C\" )?fn (\w+)(.*?)^\{$", re.M | re.S)
+# A block of methods of a type, and one of a conversion between two types, to their ends.
+METHODS = re.compile(r"^impl(?:<[^>]*>)? (\w+)(?:<[^>]*>)? \{$(.*?)^\}$", re.M | re.S)
+TEXT = re.compile(r"^impl fmt::Display for (\w+) \{$(.*?)^\}$", re.M | re.S)
+CONVERSION = re.compile(r"^impl From<([^\n]+)> for (\w+) \{$(.*?)^\}$", re.M | re.S)
+METHOD = re.compile(r"^    (pub(?:\(crate\))? )?fn (\w+)(.*?)^    \{$", re.M | re.S)
+GHOST_MEMBER = re.compile(r"^    ghost (\w+) = \{(.*?)\};$", re.M | re.S)
 PUBLIC_MODULE = re.compile(r"^pub mod (\w+);$", re.M)
 PUBLIC = "pub "
 
@@ -52,7 +58,27 @@ def public_files(root, crate):
 
 
 def functions_in(path):
-    return [Function(path, seen, name, contract) for seen, name, contract in FUNCTION.findall(text_of(path))]
+    """Functions, methods, conversions and texts, under the names that the toolchain has for them: `Draft::push_bytes`,
+    `U8FromRefusal::from` for `impl From<Refusal> for u8`, `RefusalDisplay::fmt` for `impl fmt::Display for Refusal`."""
+    text = text_of(path)
+    found = [Function(path, *function) for function in FUNCTION.findall(text)]
+    for type_name, block in METHODS.findall(text):
+        found += [Function(path, seen, f"{type_name}::{name}", says) for seen, name, says in METHOD.findall(block)]
+    for source, target, block in CONVERSION.findall(text):
+        name = f"{in_camel_case(target)}From{''.join(map(in_camel_case, re.findall(r'[A-Za-z_0-9]+', source)))}::from"
+        found.append(Function(path, PUBLIC, name, promise_of(block)))
+    for type_name, block in TEXT.findall(text):
+        found.append(Function(path, PUBLIC, f"{type_name}Display::fmt", promise_of(block)))
+    return found
+
+
+def promise_of(block):
+    """What a trait's method promises stands in the ghost members, and the trait itself asks nothing."""
+    return "".join(f" ensures {{ {text} }}" for _, text in GHOST_MEMBER.findall(block))
+
+
+def in_camel_case(name):
+    return "".join(part[:1].upper() + part[1:] for part in name.split("_"))
 
 
 def public_functions(root, crate):

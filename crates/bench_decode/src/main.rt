@@ -1,96 +1,71 @@
 // Decodes the words of standard input and adds parts of the answers up, for bench/run to count instructions. The input:
 // a byte that says whether to decode, a byte that is the width flag, two that are ignored, then the words,
 // little-endian. Where it does not decode it adds up the words themselves, which is what the loop costs without the
-// decoder. Depends on `decode` and the kit's `io`.
+// decoder. Depends on `decode`, whose answers are of `reading` and `refusal`, and on the kit's `io`.
 #![tactic(auto)]
 
-use reading::Decoded;
+use reading::{Insn, Parts};
+use refusal::Refusal;
 
-#[derive(Clone, Copy)]
-struct State {
-    decoding: bool,
-    wide: bool,
-    va: u64,
-    sum: u64,
-    more: bool,
-}
+const INPUT: i32 = 0;
 
-fn add(sum: u64, x: u64) -> u64 {
-    std::num::wrapping_add_u64(sum, x)
-}
+const OUTPUT: i32 = 1;
 
-fn add_byte(sum: u64, x: u8) -> u64 {
-    add(sum, x as u64)
-}
+// The bytes of a word, of which a buffer has a whole number.
+const WORD: u64 = 4;
 
 // Number, count, flow, the first operand's register and the target. The Rust has no number for a mnemonic.
-fn add_parts(sum: u64, d: Decoded) -> u64 {
-    let i = d.insn;
-    let flow = i.flow;
-    let target = i.target;
-    let ops = i.ops;
-    let first = ops[0];
-    let op = first.op;
-    let o = reading::op_parts(op);
-    let t = reading::target_parts(target);
-    let counted = add_byte(add_byte(sum, d.number), i.count);
-    let flowed = add_byte(counted, reading::flow_number(flow));
-    add(add_byte(flowed, o.first), t.address)
+fn add_parts(sum: u64, answer: Result<Insn, Refusal>) -> u64 {
+    match answer {
+        Ok(i) => {
+            let first = Parts::from(i.ops[0].op);
+            sum.wrapping_add(u64::from(i.count))
+                .wrapping_add(u64::from(u8::from(i.flow)))
+                .wrapping_add(u64::from(first.first))
+                .wrapping_add(i.target.unwrap_or(0))
+        }
+        Err(refusal) => sum.wrapping_add(u64::from(u8::from(refusal))),
+    }
 }
 
-fn add_words(s: State, b: &[u8]) -> u64 {
-    let mut sum = s.sum;
-    let mut va = s.va;
-    let mut at = 0;
-    while 4 <= b.len() - at {
-        let w = word::from_le_bytes([b[at], b[at + 1], b[at + 2], b[at + 3]]);
-        if s.decoding {
-            sum = add_parts(sum, decode::decode_word(w, va, s.wide));
-        } else {
-            sum = add(sum, w as u64);
+// The sum over all words of standard input: `step` adds what it makes of a word at an address to the sum so far.
+// bench_encode has a loop of its own: they are two programs by a rule of the project (docs/DECISIONS.md, Said once).
+fn add_all<F: Fn(u64, u32, u64) -> u64>(start: u64, step: F) -> u64
+    requires { F.IsAlwaysCallable step }
+{
+    let mut buffer = io::large_buffer();
+    let mut sum = start;
+    let mut va: u64 = 0;
+    // A proved loop has to end, and nothing says that the input does; no run comes to 2^64 turns.
+    for _ in 0..u64::MAX {
+        let n = io::read_full(INPUT, &mut buffer);
+        let (words, _) = buffer[..n].as_chunks::<4>();
+        for word in words {
+            sum = step(sum, u32::from_le_bytes(*word), va);
+            va = va.wrapping_add(WORD);
         }
-        va = add(va, 4);
-        at += 4;
+        if n < buffer.len() {
+            break;
+        }
     }
     sum
-}
-
-fn add_some(s: State) -> State {
-    let mut buffer = io::large_buffer();
-    let n = io::read_full(0, &mut buffer);
-    let sum = add_words(s, &buffer[..n]);
-    State {
-        decoding: s.decoding,
-        wide: s.wide,
-        va: add(s.va, n as u64),
-        sum,
-        more: n == 65536,
-    }
-}
-
-fn add_all(start: State) -> u64 {
-    let mut s = start;
-    let mut turns = u64::MAX;
-    while turns > 0 && s.more {
-        s = add_some(s);
-        turns -= 1;
-    }
-    s.sum
 }
 
 // The head is decoded too, by `decode`: with two callers `decode_word` stays a function of its own, as in a library.
 fn main() {
     let mut head = [0u8; 4];
-    io::read_full(0, &mut head);
-    let wide = head[1] != 0;
-    let sum = add_parts(0, decode::decode(&head, 0, false, wide));
-    let start = State {
-        decoding: head[0] != 0,
-        wide,
-        va: 0,
-        sum,
-        more: true,
+    io::read_full(INPUT, &mut head);
+    let [decoding, wide, ..] = head;
+    let wide = wide != 0;
+    let start = add_parts(0, decode::decode(&head, 0, false, wide));
+    let sum = if decoding != 0 {
+        add_all(
+            start,
+            |sum, w, va| add_parts(sum, decode::decode_word(w, va, wide)),
+        )
+    } else {
+        add_all(start, |sum, w, _| sum.wrapping_add(u64::from(w)))
     };
-    io::print_hex(1, add_all(start), 16);
-    io::write_all(1, b"\n");
+    io::print_hex(OUTPUT, sum, 16);
+    io::write_all(OUTPUT, b"\n");
 }

@@ -14,8 +14,11 @@ use Rattle.reading.specs.declared.Ending.TheVariants.{On, Slot, Here}
 use Rattle.reading.specs.Ends.{ending_of}
 use Rattle.body.specs.declared.View.{View}
 use Rattle.body.specs.Body.{words_in, decoded_at, is_refused}
-use Rattle.blocks.specs.declared.Ended.{Ended}
-use Rattle.blocks.specs.Block.{block, with_one_more, slot_end, by_ending, block_from, block_of}
+use Rattle.blocks.specs.declared.End.{End}
+use Rattle.blocks.specs.declared.End.TheVariants as end
+use Rattle.blocks.specs.declared.extent.Block.{Block}
+use Rattle.blocks.specs.Block.{kind_of, ended_as}
+use Rattle.blocks.specs.Block.{Ended, block, with_one_more, slot_end, by_ending, block_from, block_of}
 use Rattle.blocks.specs.Private.Steps.{step_of}
 
 -- the three tell apart
@@ -33,34 +36,7 @@ never_here i = go i.delay_slot
     go true e = omega (arith, ap place e)
     go false e = omega (arith, ap place e)
 
--- ── the cases of one word ──
-
-module _ (v : View) (body : List ℕ) (k n : ℕ) where
-  pub refused : ((decoded_at v body n).number ≡ 0 → ⊥) → step_of v body k n ≡ block 0 3 0
-  unfolding step_of
-  refused r = rw (ne_eqb (decoded_at v body n).number 0 r)
-
-  -- an accepted word, by what its reading does
-  pub accepted : {e : Ending} → (decoded_at v body n).number ≡ 0 → ending_of (decoded_at v body n).insn ≡ e →
-      step_of v body k n ≡ by_ending e (block 0 0 1) (slot_end v body k (n + 1)) (block 0 5 1)
-  unfolding step_of
-  accepted a m = rw (eq-eqb (decoded_at v body n).number 0 a, m)
-
-  -- ── the cases of its slot, which is word n here ──
-
-  pub absent : k ≡ 0 → slot_end v body k n ≡ block 0 2 1
-  unfolding slot_end
-  absent e = rw e
-
-  pub slot_refused : 1 ≤ k → ((decoded_at v body n).number ≡ 0 → ⊥) → slot_end v body k n ≡ block 0 2 1
-  unfolding slot_end
-  slot_refused h r = let e : k ≡ suc (k - 1) = omega arith in rw (e, ne_eqb (decoded_at v body n).number 0 r)
-
-  pub slot_taken : 1 ≤ k → (decoded_at v body n).number ≡ 0 → slot_end v body k n ≡ block 0 1 2
-  unfolding slot_end
-  slot_taken h r = let e : k ≡ suc (k - 1) = omega arith in rw (e, eq-eqb (decoded_at v body n).number 0 r)
-
--- ── what holds in each of them ──
+-- ── what holds of one word ──
 
 -- an answer on k words and no more
 pub record Within (k most : ℕ) (t : Ended) : Type 0 where
@@ -131,8 +107,16 @@ module _ (v : View) (body : List ℕ) (k n : ℕ) where
   pub ends_here : ((step_of v body k n).kind ≡ 0 → ⊥) → block_from v body (suc k) n ≡ step_of v body k n
   ends_here z = by_step ∙ rw (ne_eqb (step_of v body k n).kind 0 z)
 
-  pub goes_on : (step_of v body k n).kind ≡ 0 → block_from v body (suc k) n ≡ with_one_more (block_from v body k (n + 1))
+  pub goes_on : (step_of v body k n).kind ≡ 0 →
+      block_from v body (suc k) n ≡ with_one_more (block_from v body k (n + 1))
   goes_on z = by_step ∙ rw (eq-eqb (step_of v body k n).kind 0 z)
+
+kind_above_0 : (e : End) → 0 < kind_of e
+kind_above_0 end.Slot = omega arith
+kind_above_0 end.NoSlot = omega arith
+kind_above_0 end.Refused = omega arith
+kind_above_0 end.Body = omega arith
+kind_above_0 end.Here = omega arith
 
 -- ── the loop ──
 
@@ -159,36 +143,33 @@ module _ {v : View} {body : List ℕ} {n k : ℕ} (l : Left v body n k) where
       let e : words_in body - k ≡ 0 = omega arith in
       sym (l.rest ∙ rw e (simp add-zero))
 
-  module _ (h : k < words_in body) {t : Ended} (e : t ≡ step_of v body (words_in body - (k + 1)) k) where
+  module _ (h : k < words_in body) where
+    abbrev t : Ended
+    t = step_of v body (words_in body - (k + 1)) k
+
     left_is : words_in body - k ≡ suc (words_in body - (k + 1))
     left_is = omega arith
 
     pub inside : k + t.words ≤ words_in body
-    inside = rw e (omega (arith, (step_within v body (words_in body - (k + 1)) k).words))
+    inside = omega (arith, (step_within v body (words_in body - (k + 1)) k).words)
 
-    pub one_word_more : t.kind ≡ 0 → t.words ≡ 1
-    one_word_more = rw e (one_word v body (words_in body - (k + 1)) k)
+    -- the block ends with word k
+    pub stopped : (b : Block) → ended_as b ≡ t → block 0 (kind_of b.end) (k - n + b.words) ≡ block_of v body n
+    stopped b e =
+        let z : t.kind ≡ 0 → ⊥ = λ z. omega (arith, kind_above_0 b.end, ap (λ (t : Ended). t.kind) e, z) in
+        let last : block_from v body (words_in body - k) k ≡ ended_as b =
+        rw left_is (ends_here v body (words_in body - (k + 1)) k z) ∙ sym e in
+        sym (l.rest ∙ ap (after (k - n)) last)
 
-    the_last : (t.kind ≡ 0 → ⊥) → block_from v body (words_in body - k) k ≡ t
-    the_last z = rw left_is (ends_here v body (words_in body - (k + 1)) k (rw e at z) ∙ sym e)
-
-    one_of_more : t.kind ≡ 0 →
-        block_from v body (words_in body - k) k ≡ with_one_more (block_from v body (words_in body - (k + 1)) (k + 1))
-    one_of_more z = rw left_is (goes_on v body (words_in body - (k + 1)) k (rw e at z))
-
-    pub stopped : (t.kind ≡ 0 → ⊥) → block 0 t.kind (k + t.words - n) ≡ block_of v body n
-    stopped z =
-        let w : k + t.words - n ≡ k - n + t.words = omega (arith, l.low) in
-        let o : t.number ≡ 0 = rw e (step_within v body (words_in body - (k + 1)) k).zero in
-        rw (w, ← o) (sym (l.rest ∙ ap (after (k - n)) (the_last z)))
-
-    pub went : t.kind ≡ 0 → Left v body n (k + t.words)
-    went z =
+    -- it goes on after it
+    pub went : block 0 0 1 ≡ t → Left v body n (k + 1)
+    went e =
         let b : Ended = block_from v body (words_in body - (k + 1)) (k + 1) in
+        let more : block_from v body (words_in body - k) k ≡ with_one_more b =
+        rw left_is (goes_on v body (words_in body - (k + 1)) k (sym (ap (λ (t : Ended). t.kind) e))) in
         let w : k - n + (b.words + 1) ≡ k + 1 - n + b.words = omega (arith, l.low) in
-        rw (one_word_more z)
-        (record {
+        record {
           low = omega (arith, l.low);
           high = omega arith;
-          rest = l.rest ∙ ap (after (k - n)) (one_of_more z) ∙ ap (block b.number b.kind) w;
-        })
+          rest = l.rest ∙ ap (after (k - n)) more ∙ ap (block b.number b.kind) w;
+        }

@@ -7,8 +7,7 @@ use native.Mathlib.Omega.{arith}
 use borrow.Author.Tests.{lt-ltb, le-ltb}
 use Rattle.body.specs.declared.View.{View}
 use Rattle.body.specs.Body.{words_in}
-use Rattle.blocks.specs.declared.Ended.{Ended}
-use Rattle.blocks.specs.Block.{block, block_from, block_of}
+use Rattle.blocks.specs.Block.{Ended, block, block_from, block_of}
 use Rattle.blocks.specs.Private.Steps.{step_of}
 use Rattle.blocks.specs.Theorems.{Theorems}
 use Rattle.blocks.proofs.Blocks.{step_within, ends_here, goes_on}

@@ -1,12 +1,16 @@
 -- A BLOCK: it runs to the first word that ends it, and takes the next word too if that is in the delay slot.
-use Rattle.std.specs.Prelude.{ℕ, zero, suc, ◌+◌, ◌-◌, cond, List, ltb}
+use Rattle.std.specs.Prelude.{ℕ, zero, suc, ◌+◌, ◌-◌, cond, List, ltb, Result, Ok, Err}
 use Rattle.refusal.specs.Numbers as refusal
+use Rattle.refusal.specs.declared.Refusal.{Refusal}
+use Rattle.refusal.specs.Refusals.{number_of}
 use Rattle.reading.specs.declared.Ending.{Ending}
 use Rattle.reading.specs.declared.Ending.TheVariants.{On, Slot, Here}
 use Rattle.reading.specs.Ends.{ending_of}
 use Rattle.body.specs.declared.View.{View}
 use Rattle.body.specs.Body.{words_in, decoded_at, is_refused}
-use Rattle.blocks.specs.declared.Ended.{Ended}
+use Rattle.blocks.specs.declared.End.{End}
+use Rattle.blocks.specs.declared.End.TheVariants as end
+use Rattle.blocks.specs.declared.extent.Block.{Block}
 
 -- ── the end kinds ──
 
@@ -29,11 +33,32 @@ end_body = 4
 abbrev pub end_here : ℕ
 end_here = 5
 
+abbrev pub kind_of : End → ℕ
+kind_of end.Slot = end_slot
+kind_of end.NoSlot = end_no_slot
+kind_of end.Refused = end_refused
+kind_of end.Body = end_body
+kind_of end.Here = end_here
+
 -- ── blocks ──
+
+-- 0, how the block ends and how many words it has; or the number, kind 0 and no words
+pub record Ended : Type 0 where
+  pub number : ℕ
+  pub kind : ℕ
+  pub words : ℕ
 
 -- number, end kind and words
 abbrev pub block : ℕ → ℕ → ℕ → Ended
 block number kind words = record { number = number; kind = kind; words = words }
+
+abbrev pub ended_as : Block → Ended
+ended_as b = block 0 (kind_of b.end) b.words
+
+-- an answer in that number, kind and words
+abbrev pub ended_of : Result Block Refusal → Ended
+ended_of (Ok b) = ended_as b
+ended_of (Err r) = block (number_of r) 0 0
 
 abbrev pub with_one_more : Ended → Ended
 with_one_more b = block b.number b.kind (b.words + 1)

@@ -1,23 +1,23 @@
 // Writing into bytes that a caller lends, and numbers as little-endian bytes. Depends on no other crate.
-// Every function takes any place: where there is no room, nothing is written, and 0 is read.
+// Every function takes any place: where there is no room, nothing is written, and 0 is read. Bytes and place go side by
+// side, here and in `text`: a struct of both would hold the loan, and each contract would have to fix it at exit too.
 #![tactic(auto)]
 
-ghost use Rattle.std.specs.Prelude.{◌≡◌, ◌+◌, ◌≤◌, ◌<◌, length, take, drop, [], ◌∷◌};
+ghost use Rattle.std.specs.Prelude.{◌≡◌, ◌+◌, ◌≤◌, ◌<◌, length, take, drop, [], ◌∷◌, MatchOption};
 ghost use Rattle.buffers.specs.Bytes.{over, placed, whole, low_bytes, num_at};
-ghost use Rattle.buffers.specs.Private.Numbers.{Stands};
 
-// Copies src to dst from place `at` on.
+// Copies src to dst from place `at` on. The place and the room are tested here and below: with `get_mut` the proof did
+// not close, since nothing is known of the elements when its borrow is over.
 pub fn put(src: &[u8], dst: &mut [u8], at: usize)
     ensures { dst.new ≡ placed at src.now dst.old }
 {
     if at <= dst.len() {
-        if src.len() <= dst.len() - at {
-            copy(src, &mut dst[at..]);
-        }
+        put_whole(src, &mut dst[at..]);
     }
 }
 
-// Copies src to the start of dst if it has room there. Answers how many bytes were copied.
+// Copies src to the start of dst if it has room there. Answers how many bytes were copied: none without room, by
+// `whole`, which its clause names, and so no `Option`.
 pub fn put_whole(src: &[u8], dst: &mut [u8]) -> usize
     ensures value { result ≡ length (whole src.now (length dst.old)) }
     ensures dst_after { dst.new ≡ over (whole src.now (length dst.old)) dst.old }
@@ -25,20 +25,8 @@ pub fn put_whole(src: &[u8], dst: &mut [u8]) -> usize
     if dst.len() < src.len() {
         return 0;
     }
-    copy(src, dst);
+    dst[..src.len()].copy_from_slice(src);
     src.len()
-}
-
-// Copies src to the start of dst.
-fn copy(src: &[u8], dst: &mut [u8])
-    requires { length src.now ≤ length dst.old }
-    ensures { dst.new ≡ over src.now dst.old }
-{
-    let mut i = 0;
-    while i < src.len() {
-        dst[i] = src[i];
-        i += 1;
-    }
 }
 
 // The byte x, to dst at place `at`.
@@ -50,54 +38,36 @@ pub fn put1(x: u8, dst: &mut [u8], at: usize)
     }
 }
 
-// The eight bytes of x, the lowest first.
-fn bytes8(x: u64) -> [u8; 8]
-    ensures { result ≡ low_bytes 8 x }
-{
-    [
-        (x % 256) as u8,
-        (x / 256 % 256) as u8,
-        (x / 256 / 256 % 256) as u8,
-        (x / 256 / 256 / 256 % 256) as u8,
-        (x / 256 / 256 / 256 / 256 % 256) as u8,
-        (x / 256 / 256 / 256 / 256 / 256 % 256) as u8,
-        (x / 256 / 256 / 256 / 256 / 256 / 256 % 256) as u8,
-        (x / 256 / 256 / 256 / 256 / 256 / 256 / 256 % 256) as u8,
-    ]
-}
-
-// The same, to dst from place `at` on.
+// The eight bytes of x, the lowest first, to dst from place `at` on.
 pub fn put8(x: u64, dst: &mut [u8], at: usize)
     ensures { dst.new ≡ placed at (low_bytes 8 x) dst.old }
 {
-    let b = bytes8(x);
-    put(&b, dst, at);
+    put(&x.to_le_bytes(), dst, at);
 }
 
 // ── numbers in bytes, the lowest first ──
 
-// Each reads the bytes from place `at` on; 0 where there are fewer.
+// The N bytes from place `at` on, if there are so many.
+fn chunk<const N: usize>(src: &[u8], at: usize) -> Option<[u8; N]>
+    ensures { MatchOption result (length src.now < at + N)
+        (λ b. (at + N ≤ length src.now) × (b ≡ take N (drop at src.now))) }
+{
+    src.get(at..)?.first_chunk().copied()
+}
+
+// Each reads the bytes from place `at` on; 0 where there are fewer, as `num_at` has it, and no `None`. They are
+// three, since no trait of std has `from_le_bytes`; what they share is in `chunk`.
 
 pub fn get2(src: &[u8], at: usize) -> u16
     ensures { result ≡ num_at 2 at src.now }
 {
-    if at <= src.len() {
-        if 2 <= src.len() - at {
-            return number2(src, at) as u16;
-        }
-    }
-    0
+    chunk(src, at).map_or(0, u16::from_le_bytes)
 }
 
 pub fn get4(src: &[u8], at: usize) -> u32
     ensures { result ≡ num_at 4 at src.now }
 {
-    if at <= src.len() {
-        if 4 <= src.len() - at {
-            return number4(src, at) as u32;
-        }
-    }
-    0
+    chunk(src, at).map_or(0, u32::from_le_bytes)
 }
 
 // The bytes of the number are then those that were read: a byte is below 256, which the list alone does not say.
@@ -105,40 +75,5 @@ pub fn get8(src: &[u8], at: usize) -> u64
     ensures value { result ≡ num_at 8 at src.now }
     ensures result_value { at + 8 ≤ length src.now → low_bytes 8 result ≡ take 8 (drop at src.now) }
 {
-    if at <= src.len() {
-        if 8 <= src.len() - at {
-            return number8(src, at);
-        }
-    }
-    0
-}
-
-// A byte as a number of 64 bits.
-fn widened(x: u8) -> u64
-    ensures { (result ≡ x) × (result < 256) }
-{
-    x as u64
-}
-
-// A number is made of its two halves.
-
-fn number2(b: &[u8], at: usize) -> u64
-    requires { at + 2 ≤ length b.now }
-    ensures { Stands 2 at b.now result }
-{
-    widened(b[at]) + 0x100 * widened(b[at + 1])
-}
-
-fn number4(b: &[u8], at: usize) -> u64
-    requires { at + 4 ≤ length b.now }
-    ensures { Stands 4 at b.now result }
-{
-    number2(b, at) + 0x1_0000 * number2(b, at + 2)
-}
-
-fn number8(b: &[u8], at: usize) -> u64
-    requires { at + 8 ≤ length b.now }
-    ensures { Stands 8 at b.now result }
-{
-    number4(b, at) + 0x1_0000_0000 * number4(b, at + 4)
+    chunk(src, at).map_or(0, u64::from_le_bytes)
 }

@@ -1,4 +1,5 @@
 -- From what the encoder answers to the reading in a record, to what the record gets.
+use Rattle.inverse.specs.Encoded.{Encoded, Has, Encodes}
 use Prim.Native.Nat.{ℕ, ◌≤◌}
 use mathlib.Core.Path.{◌≡◌, refl, sym, ap, ◌∙◌}
 use mathlib.Core.Bool.{Bool, true, false, cond}
@@ -9,11 +10,9 @@ use lib.ListN.{length, drop, take-append-drop}
 use borrow.Author.Tests.{ltb-true, ltb-false}
 use Rattle.reading.specs.declared.Insn.{Insn}
 use Rattle.reading.specs.declared.Decoded.{Decoded}
-use Rattle.reading.specs.declared.Encoded.{Encoded}
 use Rattle.reading.specs.Reading.{refused_of, accepted_as}
 use Rattle.classes.specs.Decoded.{decoded_of}
 use Rattle.inverse.specs.Encoded as encoded
-use Rattle.inverse.specs.Encoded.{Has, Encodes}
 use Rattle.record.specs.Record.{size, record_of}
 use Rattle.record.specs.Unpacked.{insn_in, is_record, unpacked}
 use Rattle.record.proofs.Accepted.{proper}

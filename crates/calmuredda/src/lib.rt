@@ -6,20 +6,36 @@
 #![tactic(auto)]
 
 ghost use Rattle.std.specs.Prelude.{◌≡◌, length};
+ghost use Rattle.refusal.specs.Refusals.{number_in};
 ghost use Rattle.buffers.specs.Bytes.{over, over_at};
 ghost use Rattle.record.specs.Record.{pack_number, packed};
 ghost use Rattle.section.specs.Section.{checked, refusal_of, count_of, flags_of, address_of, start_of, length_of};
-ghost use Rattle.line.specs.Line.{plain};
+ghost use Rattle.line.specs.Line.{plain, printing_of};
 ghost use Rattle.body.specs.Body.{view_of};
 ghost use Rattle.blocks.specs.Block.{block_of};
 ghost use Rattle.pages.specs.Page.{page_number, page_words, page_bytes};
 ghost use Rattle.listing.specs.Piece.{cursor, piece_number, piece_bytes, next_of};
-ghost use Rattle.calmuredda.specs.Boundary.{on, decoded_for, answer, EncodesRecord, line_number, line_bytes};
+ghost use Rattle.calmuredda.specs.Boundary.{on, decoded_for, EncodesRecord, line_number, line_bytes};
+ghost use Rattle.calmuredda.specs.Private.Steps.{both};
 
 use listing::Cursor;
+use reading::Decoded;
+use refusal::Refusal;
 
 // The place value of the number in the encoder's answer.
 const NUMBERS: u64 = 0x1_0000_0000;
+
+// C gets an answer's number, which is 0 for what is accepted, and the values in places of their own.
+fn number<T: Copy>(answer: Result<T, Refusal>) -> u8
+    ensures { result ≡ number_in answer }
+{
+    match answer {
+        Ok(_) => 0,
+        Err(refusal) => u8::from(refusal),
+    }
+}
+
+// ── records ──
 
 // Decodes the word in the first four bytes, and packs what that gives into the first 80 bytes of `record`. Answers with
 // the number.
@@ -27,7 +43,8 @@ pub fn calmuredda_decode(bytes: &[u8], va: u64, big: u8, wide: u8, record: &mut 
     ensures value { result ≡ pack_number (decoded_for bytes.now va big wide) (length «record».old) }
     ensures record_after { «record».new ≡ packed (decoded_for bytes.now va big wide) «record».old }
 {
-    record::pack(decode::decode(bytes, va, big != 0, wide != 0), record)
+    let d = Decoded::from(decode::decode(bytes, va, big != 0, wide != 0));
+    record::pack(d, record)
 }
 
 // The smallest word whose record at this address and flag is the one in the first 80 bytes, below the number: 16 for
@@ -35,19 +52,17 @@ pub fn calmuredda_decode(bytes: &[u8], va: u64, big: u8, wide: u8, record: &mut 
 pub fn calmuredda_encode(record: &[u8], va: u64, wide: u8) -> u64
     ensures { EncodesRecord «record».now va (on wide) result }
 {
-    let d = record::unpack(record);
-    if d.number != 0 {
-        return both(d.number, 0);
+    match word_of(record, va, wide != 0) {
+        Ok(word) => u64::from(word),
+        Err(refusal) => u64::from(u8::from(refusal)) * NUMBERS,
     }
-    let i = d.insn;
-    let e = encode::encode(i, va, wide != 0);
-    both(e.number, e.word)
 }
 
-fn both(number: u8, word: u32) -> u64
-    ensures { result ≡ answer number word }
+fn word_of(record: &[u8], va: u64, wide: bool) -> Result<u32, Refusal>
+    ensures { EncodesRecord «record».now va wide (both result) }
 {
-    number as u64 * NUMBERS + word as u64
+    let insn = record::unpack(record)?;
+    encode::encode(insn, va, wide)
 }
 
 // ── lines, section files, blocks, pages and listings ──
@@ -59,22 +74,25 @@ pub fn calmuredda_line(record: &[u8], out: &mut [u8], written: &mut usize) -> u8
     ensures written_after { written.new ≡ length (line_bytes «record».now (length out.old)) }
     ensures out_after { out.new ≡ over (line_bytes «record».now (length out.old)) out.old }
 {
-    let d = record::unpack(record);
-    if d.number != 0 {
-        *written = 0;
-        return d.number;
-    }
-    let i = d.insn;
-    let p = line::print(i, out);
-    *written = p.length;
-    p.number
+    let printed = print(record, out);
+    *written = printed.unwrap_or(0);
+    number(printed)
+}
+
+fn print(record: &[u8], out: &mut [u8]) -> Result<usize, Refusal>
+    ensures value { number_in result ≡ line_number «record».now (length out.old) }
+    ensures size { (printing_of result).length ≡ length (line_bytes «record».now (length out.old)) }
+    ensures out_after { out.new ≡ over (line_bytes «record».now (length out.old)) out.old }
+{
+    let insn = record::unpack(record)?;
+    line::print(insn, out)
 }
 
 // 0 for a good section file; 12 or 13.
 pub fn calmuredda_section_check(file: &[u8]) -> u8
     ensures { result ≡ checked file.now }
 {
-    section::check(file)
+    number(section::check(file))
 }
 
 // How many sections a good file has; 0 for another.
@@ -106,7 +124,7 @@ pub fn calmuredda_section_body(file: &[u8], n: usize, offset: &mut usize, size: 
 {
     *offset = section::start(file, n);
     *size = section::body(file, n).len();
-    section::refusal(file, n)
+    number(section::refusal(file, n))
 }
 
 // The block of a body from word `index` on: 0, or 15; `kind` is how it ends, `words` how many words it has.
@@ -122,10 +140,12 @@ pub fn calmuredda_block(
     ensures kind_after { kind.new ≡ (block_of (view_of va flags) body.now index).kind }
     ensures words_after { words.new ≡ (block_of (view_of va flags) body.now index).words }
 {
-    let b = blocks::block(body, body::view_of(va, flags), index);
-    *kind = b.kind;
-    *words = b.words;
-    b.number
+    let block = blocks::block(body, body::view_of(va, flags), index);
+    (*kind, *words) = match block {
+        Ok(b) => (u8::from(b.end), b.words),
+        Err(_) => (0, 0),
+    };
+    number(block)
 }
 
 // The page of a body from word `index` on, into `out` from `place` on: 0, 15 or 11; `words` is how many words it has,
@@ -149,10 +169,12 @@ pub fn calmuredda_page(
         over_at place (page_bytes plain (view_of va flags) body.now index (length out.old) place)
         out.old }
 {
-    let p = pages::page(body, body::view_of(va, flags), index, out, place);
-    *words = p.words;
-    *bytes = p.bytes;
-    p.number
+    let page = pages::page(body, body::view_of(va, flags), index, out, place);
+    (*words, *bytes) = match page {
+        Ok(p) => (p.words, p.bytes),
+        Err(_) => (0, 0),
+    };
+    number(page)
 }
 
 // The listing of a section file from line `line` of section `section` on, as many whole lines of that section as fit in
@@ -176,10 +198,10 @@ pub fn calmuredda_listing(
     ensures out_after { out.new ≡
         over (piece_bytes file.now (length out.old) (cursor section line)) out.old }
 {
-    let p = listing::piece(file, Cursor { section, line }, out);
-    let next = p.next;
-    *next_section = next.section;
-    *next_line = next.line;
-    *bytes = p.bytes;
-    p.number
+    let piece = listing::piece(file, Cursor { section, line }, out);
+    (*bytes, *next_section, *next_line) = match piece {
+        Ok(p) => (p.bytes, p.next.section, p.next.line),
+        Err(_) => (0, section, line),
+    };
+    number(piece)
 }

@@ -1,5 +1,7 @@
 // The functions that C calls: each is the function of that name in crate `calmuredda`, and promises what that one
-// promises. include/calmuredda.h describes them for C. tools/archive builds this crate, as libcalmuredda.a.
+// promises. include/calmuredda.h describes them for C. tools/archive builds this crate, as libcalmuredda.a. It says all
+// of that again because of the C interface: only a static library exports, and no crate can use one, while `contracts`
+// speaks of the functions of `calmuredda` (docs/DECISIONS.md, How tight the contracts are).
 #![tactic(auto)]
 
 ghost use Rattle.std.specs.Prelude.{◌≡◌, length};

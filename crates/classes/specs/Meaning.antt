@@ -1,5 +1,6 @@
 -- Which words a row takes, and what it makes of their fields.
 use Rattle.std.specs.Prelude.{ℕ, ◌+◌, ◌%◌, Bool, true, false, not, cond, ◌&&◌, List, [], ◌∷◌, eqb, leb, ℤ, pos, negsuc}
+use Rattle.std.specs.Prelude.{None, Some, Option as Target}
 use Rattle.std.specs.Prelude.{length}
 use Rattle.std.proofs.Math.Option.{Option, none, some}
 use Rattle.word.specs.Word.{Field, op, rs, rt, rd, sa, funct, Fields}
@@ -11,8 +12,6 @@ use Rattle.reading.specs.declared.Flow.{Flow}
 use Rattle.reading.specs.declared.Flow.TheVariants as flow
 use Rattle.reading.specs.declared.Effect.{Effect}
 use Rattle.reading.specs.declared.Effect.TheVariants as effect
-use Rattle.reading.specs.declared.Target.{Target}
-use Rattle.reading.specs.declared.Target.TheVariants as target
 use Rattle.reading.specs.declared.Insn.{Insn}
 use Rattle.reading.specs.Reading.{operand}
 use Rattle.classes.specs.Row.{Pat, is, read, read_but, zeros, extra, skip_but, low, Row, pat_of}
@@ -143,13 +142,13 @@ mark_of interrupt = false
 mark_of by_register = true
 
 -- the target is the operand that is an address
-unfoldable pub target_in : List Op → Target
-target_in [] = target.None
+unfoldable pub target_in : List Op → Target ℕ
+target_in [] = None
 target_in (Reg n ∷ os) = target_in os
 target_in (FReg n ∷ os) = target_in os
 target_in (Imm z ∷ os) = target_in os
 target_in (Mem z n ∷ os) = target_in os
-target_in (Addr a ∷ os) = target.At a
+target_in (Addr a ∷ os) = Some a
 target_in (Cop0 n ∷ os) = target_in os
 
 -- four slots; one that is not used holds register 0

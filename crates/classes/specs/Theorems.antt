@@ -1,12 +1,11 @@
 -- WHAT IS PROVED OF THE DEFINITION, for every word, address and width flag. The proofs are in proofs/Proved.antt.
-use Rattle.std.specs.Prelude.{ℕ, ◌+◌, ◌%◌, ◌≡◌, Bool, true, false, not, cond, ◌&&◌, ◌||◌, List, [], ◌∷◌, map, eqb}
+use Rattle.std.specs.Prelude.{ℕ, ◌+◌, ◌%◌, ◌≡◌, Bool, true, false, not, cond}
+use Rattle.std.specs.Prelude.{◌&&◌, ◌||◌, List, [], ◌∷◌, map, eqb, None, Option, Some}
 use Rattle.std.proofs.Math.Option.{some}
 use Rattle.word.specs.Word.{Field, Fields, fields_of, op, rs, rt, rd, funct}
 use Rattle.reading.specs.declared.Op.TheVariants.{Reg}
 use Rattle.reading.specs.declared.Flow.{Flow}
 use Rattle.reading.specs.declared.Flow.TheVariants as flow
-use Rattle.reading.specs.declared.Target.{Target}
-use Rattle.reading.specs.declared.Target.TheVariants as target
 use Rattle.reading.specs.declared.Insn.{Insn}
 use Rattle.reading.specs.Reading.{refused_of, accepted_as}
 use Rattle.reading.specs.Kind as kind
@@ -67,9 +66,9 @@ turns flow.CondJump = true
 turns flow.Ret = false
 turns flow.Interrupt = false
 
-abbrev pub present : Target → Bool
-present target.None = false
-present (target.At a) = true
+abbrev pub present : Option ℕ → Bool
+present None = false
+present (Some a) = true
 
 -- the mark is set exactly if flow is Call, Jump or CondJump, or the word is `jr`; a target is present exactly if the
 -- mark is set and the word is neither `jr` nor `jalr`

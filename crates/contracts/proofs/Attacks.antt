@@ -1,7 +1,11 @@
 -- What specs/Attacks.antt states, proved: the contract gives a byte or a number that the wrong answer does not have.
 use Prim.Native.Nat.{ℕ, zero, suc, ◌+◌}
 use mathlib.Core.Path.{◌≡◌, refl, sym, ap, ◌∙◌}
-use mathlib.Core.Bool.{Bool, true, false}
+use Rattle.std.proofs.Common.{Result, Ok}
+use mathlib.Core.Bool.{Bool, true, false, cond}
+use lib.Dec.{eqb, ltb}
+use Rattle.refusal.specs.declared.Refusal.{Refusal}
+use Rattle.refusal.specs.Numbers as refusal_numbers
 use mathlib.Core.List.{List, ◌++◌}
 use native.Mathlib.Nat.{add-zero}
 use native.Mathlib.Omega.{arith}
@@ -24,11 +28,11 @@ use Rattle.buffers.proofs.Laws.{at_start}
 use Rattle.record.specs.Record.{record_of, bytes_by, packed}
 use Rattle.text.specs.Text.{letter, letters, text_of, last_of, numeral_of, decimal_of, address_of, hex_of}
 use Rattle.line.specs.Line.{plain, register_name, op_text, listed, line_of}
-use Rattle.pages.specs.declared.Paged.{Paged}
-use Rattle.body.specs.Body.{decoded_at}
+use Rattle.body.specs.Body.{decoded_at, words_in}
 use Rattle.pages.specs.Lines.{lines_from, fitting}
-use Rattle.pages.specs.Page.{answer_text, word_line, page_words, page_bytes, page_of}
-use Rattle.contracts.specs.Attacks.{Refusing, OneReading, UntouchedRecord, example, view, Lists, UntouchedPage, SpacesBelow, InventedWords, InventedBytes, RightPage, Attacks}
+use Rattle.pages.specs.declared.extent.Page.{Page}
+use Rattle.pages.specs.Page.{Paged, paging_of, answer_text, word_line, page_words, page_bytes, page_number, page_of}
+use Rattle.contracts.specs.Attacks.{Decodes, Refusing, OneReading, UntouchedRecord, example, view, Lists, UntouchedPage, SpacesBelow, InventedWords, InventedBytes, RightPage, Attacks}
 
 -- ── decoding ──
 
@@ -37,8 +41,12 @@ unfolding decoded_of decoded_by refusal refusals meets holds elem fields_of
 nop_accepted va true = refl
 nop_accepted va false = refl
 
+-- such an answer is what the word means
+meaning_of : {κs : Lfts 0} (w va : ℕ) (wide : Bool) {d : Decoded} → Decodes κs w va wide d → d ≡ decoded_of w va wide
+meaning_of w va wide p = sym p.1 ∙ p.2
+
 refusing : Refusing
-refusing κs va wide number p = omega (arith, ap (λ (d : Decoded). d.number) p ∙ nop_accepted va wide)
+refusing κs va wide number p = omega (arith, ap (λ (d : Decoded). d.number) (meaning_of 0 va wide p) ∙ nop_accepted va wide)
 
 -- word 0 is `nop`, word 0x40 `ssnop`
 two_mnemonics : ((decoded_of 0 0 false).insn.mnemonic ≡ 0) × ((decoded_of 0x40 0 false).insn.mnemonic ≡ 1)
@@ -47,7 +55,7 @@ two_mnemonics = (refl, refl)
 
 one_reading : OneReading
 one_reading κs d p =
-    let m : (decoded_of 0 0 false).insn.mnemonic ≡ (decoded_of 0x40 0 false).insn.mnemonic = ap (λ (d : Decoded). d.insn.mnemonic) (sym (p 0 0 false) ∙ p 0x40 0 false) in
+    let m : (decoded_of 0 0 false).insn.mnemonic ≡ (decoded_of 0x40 0 false).insn.mnemonic = ap (λ (d : Decoded). d.insn.mnemonic) (sym (meaning_of 0 0 false (p 0 0 false)) ∙ meaning_of 0x40 0 false (p 0x40 0 false)) in
     omega (arith, two_mnemonics.0, two_mnemonics.1, m)
 
 -- ── the record ──
@@ -93,13 +101,13 @@ six_words = refl
 module _ {κs : Lfts 2} {body : Bor (List ℕ)} {out : MutBor (List ℕ)} {x : Paged} {l : List ℕ} (h : Lists κs body out x l) where
   left : l ≡ sheet
   left =
-      h.meets.1
+      h.meets.2.1
       ∙ ap (λ (b : List ℕ). over_at 0 (page_bytes plain view b 0 (length out.now) 0) out.now) h.is_example
       ∙ ap (λ (o : List ℕ). over_at 0 (page_bytes plain view example 0 (length o) 0) o) h.is_blank
 
   counted : x.words ≡ 6
   counted =
-      ap (λ (y : Paged). y.words) h.meets.0
+      ap (λ (y : Paged). y.words) (sym h.meets.1 ∙ h.meets.2.0)
       ∙ ap (λ (b : List ℕ). page_words plain view b 0 (length out.now) 0) h.is_example
       ∙ ap (λ (o : List ℕ). page_words plain view example 0 (length o) 0) h.is_blank
       ∙ six_words
@@ -132,6 +140,25 @@ six_lines : over_at 0 (lines_from (word_line plain view example) 6 0) (replicate
 unfolding page_bytes
 six_lines = ap (λ (k : ℕ). over_at 0 (lines_from (word_line plain view example) k 0) (replicate 300 0)) (sym six_words)
 
+-- and it is not refused
+numbered : page_number plain view example 0 300 0 ≡ 0
+unfolding page_number
+numbered = ap (λ (k : ℕ). cond (ltb 0 (words_in example)) (cond (eqb k 0) refusal_numbers.no_room 0) refusal_numbers.no_index) six_words
+
+-- the answer with its words and bytes
+whole_page : Result Page Refusal
+whole_page = Ok (record { words = page_words plain view example 0 300 0; bytes = length (page_bytes plain view example 0 300 0) })
+
+its_answer : paging_of whole_page ≡ page_of plain view example 0 300 0
+unfolding whole_page
+its_answer =
+    λ i.
+    record {
+      number = sym numbered i;
+      words = page_words plain view example 0 300 0;
+      bytes = length (page_bytes plain view example 0 300 0);
+    }
+
 right_page : RightPage
 right_page κs body out e z =
     let lent : List ℕ → List ℕ → List ℕ = λ b o. over_at 0 (page_bytes plain view b 0 (length o) 0) o in
@@ -139,7 +166,7 @@ right_page κs body out e z =
     record {
       is_example = e;
       is_blank = z;
-      meets = (λ i. answered (sym e i) (sym z i), sym (at_start (lines_from (word_line plain view example) 6 0) (replicate 300 0)) ∙ six_lines ∙ (λ i. lent (sym e i) (sym z i)));
+      meets = (whole_page, its_answer, (its_answer ∙ (λ i. answered (sym e i) (sym z i)), sym (at_start (lines_from (word_line plain view example) 6 0) (replicate 300 0)) ∙ six_lines ∙ (λ i. lent (sym e i) (sym z i))));
     }
 
 pub attacks : Attacks

@@ -1,8 +1,17 @@
 -- The contract of every public function fixes its answer.
-use mathlib.Core.Path.{refl}
+use mathlib.Core.Path.{refl, subst}
+use mathlib.Core.List.{Mem, not-mem-nil}
 use Rattle.inverse.proofs.Proved.{theorems as encodings}
 use Rattle.calmuredda.specs.Boundary.{on}
 use Rattle.calmuredda.proofs.Proved.{theorems as boundary}
+use Rattle.refusal.proofs.One.{number_in_one}
+use Rattle.inverse.proofs.One.{encoding_one}
+use Rattle.line.proofs.One.{printing_one}
+use Rattle.blocks.proofs.Answer.{ended_one}
+use Rattle.pages.proofs.One.{paging_one}
+use Rattle.listing.proofs.One.{listing_one}
+use Rattle.reading.proofs.Answer.{answer_one}
+use Rattle.contracts.specs.Refusal.{Refusal}
 use Rattle.contracts.specs.Word.{Word}
 use Rattle.contracts.specs.Reading.{Reading}
 use Rattle.contracts.specs.Forms.{Forms}
@@ -21,6 +30,9 @@ use Rattle.contracts.specs.Listing.{Listing}
 use Rattle.contracts.specs.Calmuredda.{Calmuredda}
 use Rattle.contracts.specs.Theorems.{Theorems}
 use Rattle.contracts.proofs.Laws.{same, same_test, ◌⨾◌, determined, by_equation}
+
+of_refusal : Refusal
+of_refusal = record { number = by_equation (λ κs a v w. refl) }
 
 of_word : Word
 of_word =
@@ -51,6 +63,7 @@ of_reading =
       effect_parts = by_equation (λ κs a v w. refl);
       target_parts = by_equation (λ κs a v w. refl);
       flow_number = by_equation (λ κs a v w. refl);
+      decoded = by_equation (λ κs a v w. refl);
       ends = by_equation (λ κs a v w. refl);
       refused = by_equation (λ κs a v w. refl);
       same_insn = determined (λ κs a x y v w p q. (same_test x y p q, refl));
@@ -59,14 +72,19 @@ of_reading =
 of_forms : Forms
 of_forms =
     record {
-      read = by_equation (λ κs a v w. refl);
+      read =
+          λ R l c copies d none.
+          record {
+            asks_nothing = λ κs a n m. absurd (not-mem-nil (subst (λ ns. Mem n ns) none m));
+            one = λ κs a x y v w p q. (same p q, refl);
+          };
     }
 
 of_decode : Decode
 of_decode =
     record {
-      decode = by_equation (λ κs a v w. refl);
-      decode_word = by_equation (λ κs a v w. refl);
+      decode = determined (λ κs a x y v w p q. (answer_one x y (same p q), refl));
+      decode_word = determined (λ κs a x y v w p q. (answer_one x y (same p q), refl));
     }
 
 of_encode : Encode
@@ -74,7 +92,7 @@ of_encode =
     record {
       encode =
           determined
-          (λ κs a x y v w p q. ((encodings.definition a.1.1.0 a.1.0).unique a.0 x y p q, refl));
+          (λ κs a x y v w p q. (encoding_one x y ((encodings.definition a.1.1.0 a.1.0).unique a.0 _ _ p q), refl));
     }
 
 of_buffers : Buffers
@@ -101,7 +119,7 @@ of_record : Record
 of_record =
     record {
       pack = determined (λ κs a x y v w p q. (same p.0 q.0, refl ⨾ same p.1 q.1 ⨾ refl));
-      unpack = by_equation (λ κs a v w. refl);
+      unpack = determined (λ κs a x y v w p q. (answer_one x y (same p q), refl));
     }
 
 of_text : Text
@@ -119,16 +137,16 @@ of_text =
 of_line : Line
 of_line =
     record {
-      print = determined (λ κs a x y v w p q. (same p.0 q.0, refl ⨾ same p.1.0 q.1.0 ⨾ refl));
+      print = determined (λ κs a x y v w p q. (printing_one x y (same p.0 q.0), refl ⨾ same p.1.0 q.1.0 ⨾ refl));
     }
 
 of_section : Section
 of_section =
     record {
-      check = by_equation (λ κs a v w. refl);
+      check = determined (λ κs a x y v w p q. (number_in_one (λ a b. refl) x y (same p q), refl));
       count = by_equation (λ κs a v w. refl);
       flags = by_equation (λ κs a v w. refl);
-      refusal = by_equation (λ κs a v w. refl);
+      refusal = determined (λ κs a x y v w p q. (number_in_one (λ a b. refl) x y (same p q), refl));
       address = by_equation (λ κs a v w. refl);
       body =
           record {
@@ -144,24 +162,28 @@ of_body =
       view_of = by_equation (λ κs a v w. refl);
       count = by_equation (λ κs a v w. refl);
       address = by_equation (λ κs a v w. refl);
-      decoded = by_equation (λ κs a v w. refl);
+      decoded = determined (λ κs a x y v w p q. (answer_one x y (same p q), refl));
       word = by_equation (λ κs a v w. refl);
       refusals = by_equation (λ κs a v w. refl);
     }
 
 of_blocks : Blocks
-of_blocks = record { block = by_equation (λ κs a v w. refl) }
+of_blocks =
+    record {
+      kind = by_equation (λ κs a v w. refl);
+      block = determined (λ κs a x y v w p q. (ended_one x y (same p q), refl));
+    }
 
 of_pages : Pages
 of_pages =
     record {
-      page = determined (λ κs a x y v w p q. (same p.0 q.0, refl ⨾ refl ⨾ refl ⨾ same p.1 q.1 ⨾ refl));
+      page = determined (λ κs a x y v w p q. (paging_one x y (same p.0 q.0), refl ⨾ refl ⨾ refl ⨾ same p.1 q.1 ⨾ refl));
     }
 
 of_listing : Listing
 of_listing =
     record {
-      piece = determined (λ κs a x y v w p q. (same p.0 q.0, refl ⨾ refl ⨾ same p.1 q.1 ⨾ refl));
+      piece = determined (λ κs a x y v w p q. (listing_one a.1.0 x y (same p.0 q.0), refl ⨾ refl ⨾ same p.1 q.1 ⨾ refl));
     }
 
 of_calmuredda : Calmuredda
@@ -208,6 +230,7 @@ of_calmuredda =
 pub theorems : Theorems
 theorems =
     record {
+      in_refusal = of_refusal;
       in_word = of_word;
       in_reading = of_reading;
       in_forms = of_forms;

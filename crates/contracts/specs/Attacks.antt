@@ -1,10 +1,12 @@
 -- DOCUMENT 01'S ATTACKS: answers that are wrong and would pass a careless reader do not meet the contracts. Each is
 -- stated of one case where it is wrong; that no other wrong answer meets them is what Theorems.antt says.
-use Rattle.std.specs.Prelude.{ℕ, suc, ◌<◌, ◌≡◌, Bool, true, false, List, [], ◌∷◌, ◌++◌, get_or, replicate}
+use Rattle.std.specs.Prelude.{ℕ, suc, ◌<◌, ◌≡◌, Bool, true, false, List, [], ◌∷◌, ◌++◌, get_or, replicate, Result}
 use contract.Lifetimes.{Lfts}
 use Rattle.std.specs.Borrow.{Bor, MutBor}
+use Rattle.refusal.specs.declared.Refusal.{Refusal}
+use Rattle.reading.specs.declared.Insn.{Insn}
 use Rattle.reading.specs.declared.Decoded.{Decoded}
-use Rattle.reading.specs.Reading.{refused_of}
+use Rattle.reading.specs.Reading.{refused_of, answer_of}
 use Rattle.decode.proofs.decode_word.Kinds as decode-word-kinds
 use Rattle.decode.proofs.decode_word.Reads as decode_word
 use Rattle.buffers.specs.Bytes.{over}
@@ -12,18 +14,20 @@ use Rattle.record.proofs.pack.Kinds as pack-kinds
 use Rattle.record.proofs.pack.Reads as pack
 use Rattle.line.specs.Line.{plain}
 use Rattle.body.specs.declared.View.{View}
-use Rattle.pages.specs.declared.Paged.{Paged}
+use Rattle.pages.specs.declared.extent.Page.{Page}
 use Rattle.pages.specs.Lines.{lines_from}
-use Rattle.pages.specs.Page.{word_line, page_of}
+use Rattle.pages.specs.Page.{Paged, paging_of, word_line, page_of}
 use Rattle.pages.proofs.page.Kinds as page-kinds
 use Rattle.pages.proofs.page.Reads as page
 use Rattle.contracts.specs.Exact.{Meets}
 
 -- ── decoding ──
 
+-- an answer of this number and reading meets the contract
 abbrev pub Decodes : Lfts 0 → ℕ → ℕ → Bool → Decoded → Type 0
 Decodes κs w va wide d =
-    Meets decode-word-kinds.ps decode-word-kinds.r decode_word.Learnt κs (w, (va, (wide, tt))) d (tt, (tt, (tt, tt)))
+    (x : Result Insn Refusal) × (answer_of x ≡ d) ×
+    Meets decode-word-kinds.ps decode-word-kinds.r decode_word.Learnt κs (w, (va, (wide, tt))) x (tt, (tt, (tt, tt)))
 
 -- refusing everything: word 0 is `nop`, and no refusal of it meets the contract
 abbrev pub Refusing : Type 0
@@ -54,12 +58,13 @@ abbrev pub view : View
 view = record { va = 0x80001000; big_endian = true; wide = false }
 
 -- the example in a lent slice is listed from its start on into another, of 300 bytes 0, which is more than its lines
--- have; x is answered, and l is left there. The contract is met
+-- have; an answer of number, words and bytes x is given, and l is left there. The contract is met
 pub record Lists (κs : Lfts 2) (body : Bor (List ℕ)) (out : MutBor (List ℕ)) (x : Paged) (l : List ℕ) : Type 0 where
   pub is_example : body.now ≡ example
   pub is_blank : out.now ≡ replicate 300 0
   pub meets :
-      Meets page-kinds.ps page-kinds.r page.Learnt κs (body, (view, (0, (out, (0, tt))))) x
+      (r : Result Page Refusal) × (paging_of r ≡ x) ×
+      Meets page-kinds.ps page-kinds.r page.Learnt κs (body, (view, (0, (out, (0, tt))))) r
       (tt, (tt, (tt, (l, (tt, tt)))))
 
 -- an untouched page

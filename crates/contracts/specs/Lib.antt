@@ -1,4 +1,5 @@
 pub mod Exact
+pub mod Refusal
 pub mod Word
 pub mod Reading
 pub mod Forms

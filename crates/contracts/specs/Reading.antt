@@ -1,13 +1,15 @@
 -- The contracts of crate `reading`, readings.
 use Rattle.contracts.specs.Exact.{Exact}
-use Rattle.reading.proofs.op_parts.Kinds as op-parts-kinds
-use Rattle.reading.proofs.op_parts.Reads as op_parts
-use Rattle.reading.proofs.effect_parts.Kinds as effect-parts-kinds
-use Rattle.reading.proofs.effect_parts.Reads as effect_parts
-use Rattle.reading.proofs.target_parts.Kinds as target-parts-kinds
-use Rattle.reading.proofs.target_parts.Reads as target_parts
-use Rattle.reading.proofs.flow_number.Kinds as flow-number-kinds
-use Rattle.reading.proofs.flow_number.Reads as flow_number
+use Rattle.reading.proofs.PartsFromOp.from.Kinds as op-parts-kinds
+use Rattle.reading.proofs.PartsFromOp.from.Reads as op_parts
+use Rattle.reading.proofs.PartsFromEffect.from.Kinds as effect-parts-kinds
+use Rattle.reading.proofs.PartsFromEffect.from.Reads as effect_parts
+use Rattle.reading.proofs.PartsFromOptionU64.from.Kinds as target-parts-kinds
+use Rattle.reading.proofs.PartsFromOptionU64.from.Reads as target_parts
+use Rattle.reading.proofs.U8FromFlow.from.Kinds as flow-number-kinds
+use Rattle.reading.proofs.U8FromFlow.from.Reads as flow_number
+use Rattle.reading.proofs.DecodedFromResultInsnRefusal.from.Kinds as decoded-kinds
+use Rattle.reading.proofs.DecodedFromResultInsnRefusal.from.Reads as decoded
 use Rattle.reading.proofs.ends.Kinds as ends-kinds
 use Rattle.reading.proofs.ends.Reads as ends
 use Rattle.reading.proofs.refused.Kinds as refused-kinds
@@ -20,6 +22,7 @@ pub record Reading : Type 0 where
   pub effect_parts : Exact effect-parts-kinds.ps effect-parts-kinds.r effect_parts.Asked effect_parts.Learnt
   pub target_parts : Exact target-parts-kinds.ps target-parts-kinds.r target_parts.Asked target_parts.Learnt
   pub flow_number : Exact flow-number-kinds.ps flow-number-kinds.r flow_number.Asked flow_number.Learnt
+  pub decoded : Exact decoded-kinds.ps decoded-kinds.r decoded.Asked decoded.Learnt
   pub ends : Exact ends-kinds.ps ends-kinds.r ends.Asked ends.Learnt
   pub refused : Exact refused-kinds.ps refused-kinds.r refused.Asked refused.Learnt
   pub same_insn : Exact same-insn-kinds.ps same-insn-kinds.r same_insn.Asked same_insn.Learnt

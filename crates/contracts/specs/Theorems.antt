@@ -1,5 +1,6 @@
 -- THE CONTRACT OF EVERY PUBLIC FUNCTION FIXES ITS ANSWER: a file for each library crate that has functions, a field for
 -- each function.
+use Rattle.contracts.specs.Refusal.{Refusal}
 use Rattle.contracts.specs.Word.{Word}
 use Rattle.contracts.specs.Reading.{Reading}
 use Rattle.contracts.specs.Forms.{Forms}
@@ -17,7 +18,8 @@ use Rattle.contracts.specs.Pages.{Pages}
 use Rattle.contracts.specs.Listing.{Listing}
 use Rattle.contracts.specs.Calmuredda.{Calmuredda}
 
-pub record Theorems : Type 0 where
+pub record Theorems : Type 2 where
+  pub in_refusal : Refusal
   pub in_word : Word
   pub in_reading : Reading
   pub in_forms : Forms

@@ -28,18 +28,21 @@ unfolding sure_test holds
 sure_test_lem ks f h i (x one_of vs) t = sure_holds ks f h i x (λ a. elem a vs) t
 sure_test_lem ks f h i (x none_of vs) t = sure_holds ks f h i x (λ a. not (elem a vs)) t
 
-sure_tests_lem : (ks : List Fact) (f : Fields) → Known f ks → Fit f → (us : List Test) → T (sure_tests ks us) → T (meets us f)
+sure_tests_lem : (ks : List Fact) (f : Fields) → Known f ks → Fit f → (us : List Test) →
+    T (sure_tests ks us) → T (meets us f)
 unfolding sure_tests meets
 sure_tests_lem ks f h i [] t = tt
 sure_tests_lem ks f h i (u ∷ us) t =
-    and_i (holds u f) (meets us f) (sure_test_lem ks f h i u (and_l (sure_test ks u) (sure_tests ks us) t)) (sure_tests_lem ks f h i us (and_r (sure_test ks u) (sure_tests ks us) t))
+    and_i (holds u f) (meets us f) (sure_test_lem ks f h i u (and_l (sure_test ks u) (sure_tests ks us) t))
+    (sure_tests_lem ks f h i us (and_r (sure_test ks u) (sure_tests ks us) t))
 
 -- the number of the first such entry
 unfoldable pub refusing_number : List Fact → List Refusal → Option ℕ
 refusing_number ks [] = none
 refusing_number ks (e ∷ es) = elim (sure_tests ks e.tests) [ true ↦ some e.number | false ↦ refusing_number ks es ]
 
-number_refusing : (ks : List Fact) (f : Fields) → Known f ks → Fit f → (es : List Refusal) (n : ℕ) → refusing_number ks es ≡ some n →
+number_refusing : (ks : List Fact) (f : Fields) → Known f ks → Fit f → (es : List Refusal) (n : ℕ) →
+    refusing_number ks es ≡ some n →
     1 ≤ refusing es f
 unfolding refusing_number refusing
 number_refusing ks f h i [] n e = absurd (none-ne-some n e)
@@ -49,7 +52,8 @@ number_refusing ks f h i (d ∷ es) n e = go (sure_tests ks d.tests) refl e (num
     met true t = omega arith
     met false t = absurd t
 
-    go : (b : Bool) → sure_tests ks d.tests ≡ b → elim b [ true ↦ some d.number | false ↦ refusing_number ks es ] ≡ some n →
+    go : (b : Bool) → sure_tests ks d.tests ≡ b →
+        elim b [ true ↦ some d.number | false ↦ refusing_number ks es ] ≡ some n →
         (refusing_number ks es ≡ some n → 1 ≤ refusing es f) → 1 ≤ bit (meets d.tests f) + refusing es f
     go true c q rec = met (meets d.tests f) (sure_tests_lem ks f h i d.tests (at_true c))
     go false c q rec = omega (arith, rec q)
@@ -63,7 +67,8 @@ number_is ks f h i (d ∷ es) u n e = go (sure_tests ks d.tests) refl (meets d.t
   where
     go : (b : Bool) → sure_tests ks d.tests ≡ b → (t : Bool) → meets d.tests f ≡ t → bit t + refusing es f ≤ 1 →
         elim b [ true ↦ some d.number | false ↦ refusing_number ks es ] ≡ some n →
-        (refusing es f ≤ 1 → (n : ℕ) → refusing_number ks es ≡ some n → refusal es f ≡ n) → cond t d.number (refusal es f) ≡ n
+        (refusing es f ≤ 1 → (n : ℕ) → refusing_number ks es ≡ some n → refusal es f ≡ n) →
+        cond t d.number (refusal es f) ≡ n
     go true c true m v q rec = some-injective d.number n q
     go true c false m v q rec = absurd (subst T m (sure_tests_lem ks f h i d.tests (at_true c)))
     go false c true m v q rec = absurd (omega (arith, number_refusing ks f h i es n q))

@@ -126,14 +126,18 @@ unfolding value_of
 value_is [] f h x v e = absurd (none-ne-some v e)
 value_is (k ∷ ks) f h x v e = go (value_in k x) refl e (value_is ks f h.1 x v)
   where
-    go : (o : Option ℕ) → value_in k x ≡ o → elim o [ some u ↦ some u | none ↦ value_of ks x ] ≡ some v → (value_of ks x ≡ some v → f x ≡ v) → f x ≡ v
+    go : (o : Option ℕ) → value_in k x ≡ o → elim o [ some u ↦ some u | none ↦ value_of ks x ] ≡ some v →
+        (value_of ks x ≡ some v → f x ≡ v) → f x ≡ v
     go (some u) q d rec = value_in_lem k f h.0 x u q ∙ some-injective u v d
     go none q d rec = rec d
 
-pub sure_holds : (ks : List Fact) (f : Fields) → Known f ks → Fit f → (x : Field) (p : ℕ → Bool) → T (sure ks x p) → T (p (f x))
+pub sure_holds : (ks : List Fact) (f : Fields) → Known f ks → Fit f → (x : Field) (p : ℕ → Bool) →
+    T (sure ks x p) → T (p (f x))
 unfolding sure
 sure_holds ks f h i x p t = go (value_of ks x) refl t
   where
-    go : (o : Option ℕ) → value_of ks x ≡ o → T (elim o [ some v ↦ p v | none ↦ all_below (λ a. not (possible ks x a) || p a) (room x) ]) → T (p (f x))
+    go : (o : Option ℕ) → value_of ks x ≡ o →
+        T (elim o [ some v ↦ p v | none ↦ all_below (λ a. not (possible ks x a) || p a) (room x) ]) → T (p (f x))
     go (some v) q s = subst (λ (a : ℕ). T (p a)) (sym (value_is ks f h x v q)) s
-    go none q s = implied (possible ks x (f x)) (p (f x)) (below (λ a. not (possible ks x a) || p a) (room x) s (f x) (i x)) (possible_is ks f h x)
+    go none q s = implied (possible ks x (f x)) (p (f x))
+        (below (λ a. not (possible ks x a) || p a) (room x) s (f x) (i x)) (possible_is ks f h x)

@@ -2,5 +2,4 @@ pub mod Facts
 pub mod Rows
 pub mod Entries
 pub mod Arms
-pub mod Formats
-pub mod Bytes
+pub mod Fields

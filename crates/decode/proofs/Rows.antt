@@ -1,4 +1,5 @@
--- A row that takes every word of which these facts are known: found by trying the values that the fields can still have.
+-- A row that takes every word of which these facts are known: found by trying the values that the fields can still
+-- have.
 use Prim.Native.Nat.{◌≤◌, ◌%◌}
 use mathlib.Core.Path.{◌≡◌, refl, sym, ap, subst}
 use mathlib.Core.Bool.{Bool, true, false, not, ◌&&◌, ◌||◌}
@@ -26,7 +27,8 @@ surely ks x extra = true
 surely ks x (skip_but v) = sure ks x (λ a. not (eqb a v))
 surely ks x (low v) = sure ks x (λ a. eqb (a % 4) v)
 
-surely_match : (ks : List Fact) (f : Fields) → Known f ks → Fit f → (x : Field) (q : Pat) → T (surely ks x q) → T (match q (f x))
+surely_match : (ks : List Fact) (f : Fields) → Known f ks → Fit f → (x : Field) (q : Pat) →
+    T (surely ks x q) → T (match q (f x))
 unfolding surely match
 surely_match ks f h i x (is v) t = sure_holds ks f h i x (λ a. eqb a v) t
 surely_match ks f h i x read t = tt
@@ -67,8 +69,10 @@ unfolding certain takes
 certain_takes ks f h i r t =
     and_i (six (λ x. match (pat_of r x) (f x))) (not (r.nops && nop_like f))
     (six_make (λ x. match (pat_of r x) (f x))
-    (λ x. surely_match ks f h i x (pat_of r x) (six_at (λ x. surely ks x (pat_of r x)) (and_l (six (λ x. surely ks x (pat_of r x))) _ t) x)))
-    (not_nop r.nops (nop_like f) (is_busy ks) (and_r (six (λ x. surely ks x (pat_of r x))) (not r.nops || is_busy ks) t) (busy_is ks f h))
+    (λ x. surely_match ks f h i x (pat_of r x)
+    (six_at (λ x. surely ks x (pat_of r x)) (and_l (six (λ x. surely ks x (pat_of r x))) _ t) x)))
+    (not_nop r.nops (nop_like f) (is_busy ks) (and_r (six (λ x. surely ks x (pat_of r x))) (not r.nops || is_busy ks) t)
+    (busy_is ks f h))
 
 -- the first such row
 unfoldable pub chosen : List Fact → List Row → Option Row
@@ -76,12 +80,14 @@ chosen ks [] = none
 chosen ks (r ∷ ts) = elim (certain ks r) [ true ↦ some r | false ↦ chosen ks ts ]
 
 -- it is in the table and takes the word
-chosen_in : (ks : List Fact) (f : Fields) → Known f ks → Fit f → (ts : List Row) (r : Row) → chosen ks ts ≡ some r → In r ts × T (takes r f)
+chosen_in : (ks : List Fact) (f : Fields) → Known f ks → Fit f → (ts : List Row) (r : Row) →
+    chosen ks ts ≡ some r → In r ts × T (takes r f)
 unfolding chosen In
 chosen_in ks f h i [] r e = absurd (none-ne-some r e)
 chosen_in ks f h i (s ∷ ts) r e = go (certain ks s) refl e (chosen_in ks f h i ts r)
   where
-    go : (b : Bool) → certain ks s ≡ b → elim b [ true ↦ some s | false ↦ chosen ks ts ] ≡ some r → (chosen ks ts ≡ some r → In r ts × T (takes r f)) →
+    go : (b : Bool) → certain ks s ≡ b → elim b [ true ↦ some s | false ↦ chosen ks ts ] ≡ some r →
+        (chosen ks ts ≡ some r → In r ts × T (takes r f)) →
         ((r ≡ s) ⊎ In r ts) × T (takes r f)
     go true c d rec =
         let is : s ≡ r = some-injective s r d in
@@ -89,6 +95,8 @@ chosen_in ks f h i (s ∷ ts) r e = go (certain ks s) refl e (chosen_in ks f h i
     go false c d rec = let p : In r ts × T (takes r f) = rec d in (inr p.0, p.1)
 
 -- if no two rows take the word, it is the one that is found
-pub chosen_found : (ks : List Fact) (f : Fields) → Known f ks → Fit f → (ts : List Row) → taking ts f ≤ 1 → (r : Row) → chosen ks ts ≡ some r →
+pub chosen_found : (ks : List Fact) (f : Fields) → Known f ks → Fit f → (ts : List Row) →
+    taking ts f ≤ 1 → (r : Row) → chosen ks ts ≡ some r →
     find ts f ≡ some r
-chosen_found ks f h i ts u r e = let p : In r ts × T (takes r f) = chosen_in ks f h i ts r e in only_row ts f u r p.0 p.1
+chosen_found ks f h i ts u r e = let p : In r ts × T (takes r f) = chosen_in ks f h i ts r e in
+    only_row ts f u r p.0 p.1

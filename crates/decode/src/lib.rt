@@ -1,18 +1,24 @@
 // mips.rs: `decode`, `decode_word` and `decode_cop1`, arm by arm, with a function for each group of words.
 // An arm names the shape of the word, and `forms` reads the word by its shape, as the source's closures and its `i` do.
-// Depends on `word`, `reading` and `forms`; what the answers mean is defined in `classes`.
+// Depends on `refusal`, `word`, `reading` and `forms`; what the answers mean is defined in `classes`.
+// No arm has a proof of its own: the check finds each by the laws that its function's attribute names, those of its
+// group in proofs/Fields.antt.
 #![tactic(auto)]
 
 ghost use Rattle.std.specs.Prelude.{◌≤◌, ◌≡◌, [], ◌∷◌};
 ghost use Rattle.word.specs.Word as word;
 ghost use Rattle.word.specs.Word.{fields_of};
+ghost use Rattle.reading.specs.Reading.{answer_of};
 ghost use Rattle.classes.specs.Decoded.{decoded_of};
 ghost use Rattle.decode.specs.Bytes.{decoded_in};
 ghost use Rattle.decode.specs.Private.Groups.{Is, Each, EachHanded, Group, Handed, Special, Format};
 ghost use Rattle.decode.specs.Private.Groups.{grouped, branches, immediates, shifts, moves, arithmetics};
 
-use forms::Shape;
-use reading::{Decoded, Flow, kind};
+use reading::{Flow, Insn, kind};
+use refusal::Refusal;
+
+// What an arm answers.
+type Shape = forms::Shape<Refusal>;
 
 // Words that the source compares with as a whole.
 const NOP: u32 = 0;
@@ -29,28 +35,26 @@ const W: u8 = kind::ADD_W - kind::ADD_S;
 const L: u8 = kind::ADD_L - kind::ADD_S;
 
 // Decodes the instruction word at the start of `bytes`.
-//
-// This and `decode_word` both read by the shape: with two callers `forms::read` and `shape_of` stay functions of their
-// own, and an answer is written once, where the caller wants it (docs/BENCH.md).
-pub fn decode(bytes: &[u8], va: u64, big_endian: bool, bits64: bool) -> Decoded
-    ensures { result ≡ decoded_in bytes.now va big_endian bits64 }
+pub fn decode(bytes: &[u8], va: u64, big_endian: bool, bits64: bool) -> Result<Insn, Refusal>
+    ensures { answer_of result ≡ decoded_in bytes.now va big_endian bits64 }
 {
-    if bytes.len() < 4 {
-        return reading::refused(refusal::SHORT);
-    }
-    let w = word::from_bytes([bytes[0], bytes[1], bytes[2], bytes[3]], big_endian);
-    forms::read(shape_of(w, bits64), w, va)
+    let Some(first) = bytes.first_chunk::<4>() else {
+        return Err(Refusal::Short);
+    };
+    decode_word(word::from_bytes(*first, big_endian), va, bits64)
 }
 
 // The shape of the word, and what the shape reads.
-pub fn decode_word(w: u32, va: u64, bits64: bool) -> Decoded
-    ensures { result ≡ decoded_of w va bits64 }
+pub fn decode_word(w: u32, va: u64, bits64: bool) -> Result<Insn, Refusal>
+    ensures { answer_of result ≡ decoded_of w va bits64 }
 {
     forms::read(shape_of(w, bits64), w, va)
 }
 
 // The source's `match op`. An op that has no arm here is handed on from function to function, and what is left at last
-// is refused. In the same way SPECIAL hands on a funct.
+// is refused. In the same way SPECIAL hands on a funct. It is a function of its own, so that an answer is written once,
+// where the caller wants it (docs/BENCH.md).
+#[inline(never)]
 fn shape_of(w: u32, bits64: bool) -> Shape
     ensures { Is result w bits64 }
 {
@@ -69,6 +73,7 @@ fn shape_of(w: u32, bits64: bool) -> Shape
 // ── SPECIAL, by funct ──
 
 // Shifts.
+#[tactic(auto, using(crate::proofs::Fields::shift_arms), unfolding(crate::proofs::Fields::row_reads))]
 fn special(w: u32, bits64: bool) -> Shape
     requires { Group 0 w }
     ensures { Is result w bits64 }
@@ -105,6 +110,7 @@ fn special(w: u32, bits64: bool) -> Shape
 }
 
 // Jumps by register, conditional moves, system words, HI and LO, multiply and divide.
+#[tactic(auto, using(crate::proofs::Fields::special_arms), unfolding(crate::proofs::Fields::row_reads))]
 fn move_or_multiply(funct: u8, w: u32, bits64: bool) -> Shape
     requires { Special funct (shifts ∷ []) w }
     ensures { Is result w bits64 }
@@ -133,6 +139,7 @@ fn move_or_multiply(funct: u8, w: u32, bits64: bool) -> Shape
     }
 }
 
+#[tactic(auto, using(crate::proofs::Fields::special_arms), unfolding(crate::proofs::Fields::row_reads))]
 fn arithmetic(funct: u8, w: u32, bits64: bool) -> Shape
     requires { Special funct (moves ∷ shifts ∷ []) w }
     ensures { Is result w bits64 }
@@ -168,6 +175,7 @@ fn arithmetic(funct: u8, w: u32, bits64: bool) -> Shape
     }
 }
 
+#[tactic(auto, using(crate::proofs::Fields::special_arms), unfolding(crate::proofs::Fields::row_reads))]
 fn doubleword_or_trap(funct: u8, w: u32, bits64: bool) -> Shape
     requires { Special funct (arithmetics ∷ moves ∷ shifts ∷ []) w }
     ensures { Is result w bits64 }
@@ -187,18 +195,18 @@ fn doubleword_or_trap(funct: u8, w: u32, bits64: bool) -> Shape
         51 => Shape::RsRt(kind::TLTU),
         52 => Shape::RsRt(kind::TEQ),
         54 => Shape::RsRt(kind::TNE),
-        _ => Shape::Refused(refusal::SPECIAL),
+        _ => Shape::Refused(Refusal::Special),
     }
 }
 
 // ── REGIMM, by rt ──
 
+#[tactic(auto, using(crate::proofs::Fields::regimm_arms), unfolding(crate::proofs::Fields::row_reads))]
 fn regimm(w: u32) -> Shape
     requires { Group 1 w }
     ensures { Each result w }
 {
-    let rt = word::rt(w);
-    match rt {
+    match word::rt(w) {
         0 => Shape::RsOffset(kind::BLTZ, Flow::CondJump),
         1 => if word::rs(w) == 0 {
             Shape::Offset(kind::B, Flow::Jump)
@@ -213,12 +221,13 @@ fn regimm(w: u32) -> Shape
         } else {
             Shape::RsOffset(kind::BGEZAL, Flow::Call)
         },
-        _ => Shape::Refused(refusal::REGIMM),
+        _ => Shape::Refused(Refusal::Regimm),
     }
 }
 
 // ── jumps, branches and immediates, by op ──
 
+#[tactic(auto, using(crate::proofs::Fields::op_arms), unfolding(crate::proofs::Fields::row_reads))]
 fn jump_or_branch(op: u8, w: u32) -> Shape
     requires { Handed word.op op (grouped ∷ []) w }
     ensures { Each result w }
@@ -256,6 +265,7 @@ fn jump_or_branch(op: u8, w: u32) -> Shape
     }
 }
 
+#[tactic(auto, using(crate::proofs::Fields::op_arms), unfolding(crate::proofs::Fields::row_reads))]
 fn immediate(op: u8, w: u32) -> Shape
     requires { Handed word.op op (branches ∷ grouped ∷ []) w }
     ensures { Each result w }
@@ -289,66 +299,61 @@ fn immediate(op: u8, w: u32) -> Shape
 
 // ── COP0, by rs; SPECIAL2 and SPECIAL3, by funct ──
 
+#[tactic(auto, using(crate::proofs::Fields::cop0_arms), unfolding(crate::proofs::Fields::row_reads))]
 fn cop0(w: u32) -> Shape
     requires { Group 16 w }
     ensures { Each result w }
 {
-    let rs = word::rs(w);
-    match rs {
+    match word::rs(w) {
         0 => Shape::RtCop0Write(kind::MFC0),
         4 => Shape::RtCop0(kind::MTC0),
-        16 => {
-            let funct = word::funct(w);
-            match funct {
-                24 => Shape::NoOperands(kind::ERET, Flow::Ret),
-                32 => Shape::NoOperands(kind::WAIT, Flow::None),
-                _ => Shape::Refused(refusal::COP0),
-            }
-        }
-        _ => Shape::Refused(refusal::COP0),
+        16 => match word::funct(w) {
+            24 => Shape::NoOperands(kind::ERET, Flow::Ret),
+            32 => Shape::NoOperands(kind::WAIT, Flow::None),
+            _ => Shape::Refused(Refusal::Cop0),
+        },
+        _ => Shape::Refused(Refusal::Cop0),
     }
 }
 
+#[tactic(auto, using(crate::proofs::Fields::special2_arms), unfolding(crate::proofs::Fields::row_reads))]
 fn special2(w: u32) -> Shape
     requires { Group 28 w }
     ensures { Each result w }
 {
-    let funct = word::funct(w);
-    match funct {
+    match word::funct(w) {
         0 => Shape::RsRt(kind::MADD),
         1 => Shape::RsRt(kind::MADDU),
         2 => Shape::RdRsRt(kind::MUL),
         4 => Shape::RsRt(kind::MSUB),
         32 => Shape::RdRs(kind::CLZ),
         33 => Shape::RdRs(kind::CLO),
-        _ => Shape::Refused(refusal::SPECIAL2),
+        _ => Shape::Refused(Refusal::Special2),
     }
 }
 
+#[tactic(auto, using(crate::proofs::Fields::special3_arms), unfolding(crate::proofs::Fields::row_reads))]
 fn special3(w: u32) -> Shape
     requires { Group 31 w }
     ensures { Each result w }
 {
-    let funct = word::funct(w);
-    match funct {
+    match word::funct(w) {
         0 => Shape::ExtPosSize,
         4 => Shape::InsPosSize,
-        32 => {
-            let sa = word::sa(w);
-            match sa {
-                2 => Shape::RdRt(kind::WSBH),
-                16 => Shape::RdRt(kind::SEB),
-                24 => Shape::RdRt(kind::SEH),
-                _ => Shape::Refused(refusal::SPECIAL3),
-            }
-        }
+        32 => match word::sa(w) {
+            2 => Shape::RdRt(kind::WSBH),
+            16 => Shape::RdRt(kind::SEB),
+            24 => Shape::RdRt(kind::SEH),
+            _ => Shape::Refused(Refusal::Special3),
+        },
         59 => Shape::RtHwr,
-        _ => Shape::Refused(refusal::SPECIAL3),
+        _ => Shape::Refused(Refusal::Special3),
     }
 }
 
 // ── loads and stores, by op ──
 
+#[tactic(auto, using(crate::proofs::Fields::memory_arms), unfolding(crate::proofs::Fields::row_reads))]
 fn load_or_store(op: u8) -> Shape
     ensures { EachHanded result op (immediates ∷ branches ∷ grouped ∷ []) }
 {
@@ -382,12 +387,13 @@ fn load_or_store(op: u8) -> Shape
         53 => Shape::FtBase(kind::LDC1, 8),
         57 => Shape::FtBase(kind::SWC1, 4),
         61 => Shape::FtBase(kind::SDC1, 8),
-        _ => Shape::Refused(refusal::OP),
+        _ => Shape::Refused(Refusal::Op),
     }
 }
 
 // ── COP1, by fmt ──
 
+#[tactic(auto, using(crate::proofs::Fields::cop1_arms), unfolding(crate::proofs::Fields::row_reads))]
 fn decode_cop1(w: u32) -> Shape
     requires { Group 17 w }
     ensures { Each result w }
@@ -405,10 +411,11 @@ fn decode_cop1(w: u32) -> Shape
         17 => float(D, w),
         20 => float(W, w),
         21 => float(L, w),
-        _ => Shape::Refused(refusal::COP1),
+        _ => Shape::Refused(Refusal::Cop1),
     }
 }
 
+#[tactic(auto, using(crate::proofs::Fields::bc1_arms), unfolding(crate::proofs::Fields::row_reads))]
 fn bc1(w: u32) -> Shape
     requires { Group 17 w × (fields_of w word.rs ≡ 8) }
     ensures { Each result w }
@@ -422,48 +429,30 @@ fn bc1(w: u32) -> Shape
     }
 }
 
-// The operands of an arithmetic word of COP1.
-#[derive(Clone, Copy)]
-enum FloatOps {
-    FdFsFt,
-    FdFs,
-    FsFt,
-}
-
-// The source's `(base, ops)`: the mnemonic in format s, and the operands.
-#[derive(Clone, Copy)]
-struct FloatPair(u8, FloatOps);
-
 // The source's `(base, ops)` and its `format!`: the mnemonic of format s, moved on by the distance of the format.
+#[tactic(auto, using(crate::proofs::Fields::float_arms), unfolding(crate::proofs::Fields::row_reads))]
 fn float(f: u8, w: u32) -> Shape
     requires format { Format f w }
     requires f_bound { f ≤ 48 }
     ensures { Each result w }
 {
-    let funct = word::funct(w);
-    let FloatPair(base, ops) = match funct {
-        0 => FloatPair(kind::ADD_S, FloatOps::FdFsFt),
-        1 => FloatPair(kind::SUB_S, FloatOps::FdFsFt),
-        2 => FloatPair(kind::MUL_S, FloatOps::FdFsFt),
-        3 => FloatPair(kind::DIV_S, FloatOps::FdFsFt),
-        4 => FloatPair(kind::SQRT_S, FloatOps::FdFs),
-        5 => FloatPair(kind::ABS_S, FloatOps::FdFs),
-        6 => FloatPair(kind::MOV_S, FloatOps::FdFs),
-        7 => FloatPair(kind::NEG_S, FloatOps::FdFs),
-        13 => FloatPair(kind::TRUNC_W_S, FloatOps::FdFs),
-        32 => FloatPair(kind::CVT_S_S, FloatOps::FdFs),
-        33 => FloatPair(kind::CVT_D_S, FloatOps::FdFs),
-        36 => FloatPair(kind::CVT_W_S, FloatOps::FdFs),
-        37 => FloatPair(kind::CVT_L_S, FloatOps::FdFs),
-        50 => FloatPair(kind::C_EQ_S, FloatOps::FsFt),
-        60 => FloatPair(kind::C_LT_S, FloatOps::FsFt),
-        62 => FloatPair(kind::C_LE_S, FloatOps::FsFt),
-        _ => return Shape::Refused(refusal::COP1),
-    };
-    let mnemonic = base + f;
-    match ops {
-        FloatOps::FdFsFt => Shape::FdFsFt(mnemonic),
-        FloatOps::FdFs => Shape::FdFs(mnemonic),
-        FloatOps::FsFt => Shape::FsFt(mnemonic),
+    match word::funct(w) {
+        0 => Shape::FdFsFt(kind::ADD_S + f),
+        1 => Shape::FdFsFt(kind::SUB_S + f),
+        2 => Shape::FdFsFt(kind::MUL_S + f),
+        3 => Shape::FdFsFt(kind::DIV_S + f),
+        4 => Shape::FdFs(kind::SQRT_S + f),
+        5 => Shape::FdFs(kind::ABS_S + f),
+        6 => Shape::FdFs(kind::MOV_S + f),
+        7 => Shape::FdFs(kind::NEG_S + f),
+        13 => Shape::FdFs(kind::TRUNC_W_S + f),
+        32 => Shape::FdFs(kind::CVT_S_S + f),
+        33 => Shape::FdFs(kind::CVT_D_S + f),
+        36 => Shape::FdFs(kind::CVT_W_S + f),
+        37 => Shape::FdFs(kind::CVT_L_S + f),
+        50 => Shape::FsFt(kind::C_EQ_S + f),
+        60 => Shape::FsFt(kind::C_LT_S + f),
+        62 => Shape::FsFt(kind::C_LE_S + f),
+        _ => Shape::Refused(Refusal::Cop1),
     }
 }

@@ -1,27 +1,24 @@
 -- Which class a reading's candidate is made in: the mnemonic's first, but for `li` by its value; and words 0 and 0x40.
-use Rattle.std.proofs.Common.{◌≡◌, ℕ, zero, suc, ◌+◌, ◌<◌, Bool, true, false, cond, ◌&&◌, T, eqb, List, length, ℤ, pos, negsuc, sym, refl, ap, ◌∙◌, subst, arith, ltb-false, ltb-true, le-ltb, lt-ltb}
-use mathlib.Core.Path.{fun_ext}
+use Rattle.std.proofs.Common.{◌≡◌, ℕ, ◌+◌, ◌<◌, Bool, true, false, cond, ◌&&◌}
+use Rattle.std.proofs.Common.{T, eqb, List, ℤ, sym, refl, ap, ◌∙◌, subst, arith}
 use mathlib.Core.Bool.{beq}
 use mathlib.Core.Option.{none, some, none-ne-some, some-injective}
 use native.Mathlib.Decide.{ℕ_discrete}
-use lib.Signed.{lt_z}
-use lib.ListN.{get_or-eq_default}
-use Rattle.word.specs.Word.{rs, rd, word}
+use Rattle.word.specs.Word.{word}
 use Rattle.reading.specs.declared.Op.{Op}
-use Rattle.reading.specs.declared.Operand.{Operand}
 use Rattle.reading.specs.Kind as kind
-use Rattle.reading.specs.Reading.{unused}
 use Rattle.classes.specs.Row.{is, read, Row}
 use Rattle.classes.specs.Table.{rt_imm, rt_uimm, sets_immediate, row, common, by_width, table}
 use Rattle.laws.proofs.Tests.{at_true, beq_same}
 use Rattle.classes.proofs.Find.{every}
-use Rattle.inverse.specs.Private.Fill.{at, branch_back, filled, part}
-use Rattle.inverse.specs.Private.Candidate.{least, base, in_signed, in_unsigned, holds, suits, after_nops, candidate, pick}
-use Rattle.inverse.specs.Private.Candidate.{first, operand_at}
+use Rattle.inverse.specs.Private.Fill.{branch_back, filled, part}
+use Rattle.inverse.specs.Private.Candidate.{least, base, in_signed, in_unsigned, holds, suits, after_nops, candidate}
+use Rattle.inverse.specs.Private.Candidate.{first, pick}
 use Rattle.inverse.proofs.Tables.{pick_first, pick_suited, pick_every}
 use Rattle.encode.specs.declared.stem.Stem.{Stem}
-use Rattle.encode.specs.declared.stem.Stem.TheVariants as stem
-use Rattle.encode.specs.Private.Stem.{plan_of, four, word_by, Serves, IsIn, ForIn, Is, For}
+use Rattle.encode.specs.declared.stem.Form.{Form}
+use Rattle.encode.specs.declared.stem.Form.TheVariants as stem
+use Rattle.encode.specs.Private.Stem.{form_of, word_by, Serves, IsIn, ForIn, Is, For}
 
 -- ── the rows of `li` ──
 
@@ -30,6 +27,10 @@ signed_row = row kind.li (is 9) (is 0) read read read read rt_imm sets_immediate
 
 unfoldable pub unsigned_row : Row
 unsigned_row = row kind.li (is 13) (is 0) read read read read rt_uimm sets_immediate
+
+-- `li` with an unsigned immediate
+abbrev li_unsigned_stem : Stem
+li_unsigned_stem = record { 0 = stem.RtImm; 1 = 0x34000000 }
 
 suits_signed : (z : ℤ) → T (in_signed z) → T (suits signed_row z)
 unfolding suits holds signed_row ℕ_discrete
@@ -69,20 +70,20 @@ module _ (t : Bool → List Row) where
           i.serves wide h (ap (first (t wide)) e ∙ (first_li wide ∙ (sym (picked wide) ∙ q)))
 
   pub li_unsigned_in : ((wide : Bool) → PicksUnsigned (t wide)) →
-      (m : ℕ) (z : ℤ) → m ≡ kind.li → in_signed z ≡ false → ForIn t (stem.RtImm 0x34000000) m z
+      (m : ℕ) (z : ℤ) → m ≡ kind.li → in_signed z ≡ false → ForIn t li_unsigned_stem m z
   li_unsigned_in picks m z e b = record { roomy = omega arith; serves = go }
     where
-      served : Serves (stem.RtImm 0x34000000) unsigned_row
+      served : Serves li_unsigned_stem unsigned_row
       served =
           record {
             least = unfold unsigned_row least word in refl;
             shape = λ va n o. unfold unsigned_row filled part in refl;
           }
 
-      go : (wide : Bool) (h : Row) → pick (t wide) m z ≡ some h → Serves (stem.RtImm 0x34000000) h
+      go : (wide : Bool) (h : Row) → pick (t wide) m z ≡ some h → Serves li_unsigned_stem h
       go wide h d =
           let q : pick (t wide) kind.li z ≡ some h = ap (λ (k : ℕ). pick (t wide) k z) (sym e) ∙ d in
-          subst (Serves (stem.RtImm 0x34000000)) (picks wide z h b q) served
+          subst (Serves li_unsigned_stem) (picks wide z h b q) served
 
   -- words 0 and 0x40
   pub made_in : ((wide : Bool) → T (every nops_of_sll (t wide))) →
@@ -116,7 +117,8 @@ last_row = row kind.li (is 25) (is 0) read read read read rt_imm sets_immediate
 
 -- the three rows of `li`, in a table's order
 of_three : (b c : Bool) (h : Row) → b ≡ false →
-    cond (b && true) (some signed_row) (cond c (some unsigned_row) (cond (b && true) (some last_row) none)) ≡ some h → unsigned_row ≡ h
+    cond (b && true) (some signed_row) (cond c (some unsigned_row) (cond (b && true) (some last_row) none)) ≡ some h →
+    unsigned_row ≡ h
 of_three true c h q e = absurd (subst T q tt)
 of_three false true h q e = some-injective unsigned_row h e
 of_three false false h q e = absurd (none-ne-some h e)
@@ -137,7 +139,7 @@ not_li = not_li_in table
 pub li_signed : (s : Stem) (m : ℕ) (z : ℤ) → m ≡ kind.li → in_signed z ≡ true → Is s m → For s m z
 li_signed = li_signed_in table first_li
 
-pub li_unsigned : (m : ℕ) (z : ℤ) → m ≡ kind.li → in_signed z ≡ false → For (stem.RtImm 0x34000000) m z
+pub li_unsigned : (m : ℕ) (z : ℤ) → m ≡ kind.li → in_signed z ≡ false → For li_unsigned_stem m z
 li_unsigned = li_unsigned_in table unsigned_pick
 
 pub made : (s : Stem) (m : ℕ) (z : ℤ) → For s m z → (wide : Bool) (h : Row) → pick (table wide) m z ≡ some h →
@@ -145,54 +147,9 @@ pub made : (s : Stem) (m : ℕ) (z : ℤ) → For s m z → (wide : Bool) (h : R
     (va n : ℕ) (o : ℕ → Op) (w : ℕ) → w ≡ word_by s va n o → after_nops b w ≡ candidate h va n o
 made = made_in table only_sll
 
--- ── ranges ──
-
-pub below_signed : (z : ℤ) → lt_z z (negsuc 32767) ≡ true → false ≡ in_signed z
-below_signed (pos n) e = absurd (subst T (sym e) tt)
-below_signed (negsuc n) e = sym (le-ltb n 32768 (omega (arith, ltb-true 32767 n e)))
-
-pub above_signed : (z : ℤ) → lt_z z (negsuc 32767) ≡ false → lt_z z (pos 32768) ≡ in_signed z
-above_signed (pos n) e = refl
-above_signed (negsuc n) e = sym (lt-ltb n 32768 (omega (arith, ltb-false 32767 n e)))
-
 -- ── operands ──
 
 -- no class has more than the fields below op
-pub filled_small : (s : Stem) (va n : ℕ) (o : ℕ → Op) → filled (plan_of s).shape va n o < 67108864
+pub filled_small : (φ : Form) (va n : ℕ) (o : ℕ → Op) → filled (form_of φ) va n o < 67108864
 unfolding filled part branch_back
-filled_small (stem.NoOperands w) va n o = omega arith
-filled_small (stem.OneRs w) va n o = omega arith
-filled_small (stem.OneRd w) va n o = omega arith
-filled_small (stem.RdRs w) va n o = omega arith
-filled_small (stem.RdRt w) va n o = omega arith
-filled_small (stem.RsRt w) va n o = omega arith
-filled_small (stem.RdRsRt w) va n o = omega arith
-filled_small (stem.RdRtRs w) va n o = omega arith
-filled_small (stem.RdRtSa w) va n o = omega arith
-filled_small (stem.RtCop0 w) va n o = omega arith
-filled_small (stem.FdFs w) va n o = omega arith
-filled_small (stem.FdFsFt w) va n o = omega arith
-filled_small (stem.Link w) va n o = go (eqb n 1)
-  where
-    go : (b : Bool) → cond b (at rs (o 0) + 63488) (at rd (o 0) + at rs (o 1)) < 67108864
-    go true = omega arith
-    go false = omega arith
-filled_small (stem.InstrIndex w) va n o = omega arith
-filled_small (stem.Offset w) va n o = omega arith
-filled_small (stem.RsOffset w) va n o = omega arith
-filled_small (stem.RsRtOffset w) va n o = omega arith
-filled_small (stem.RtImm w) va n o = omega arith
-filled_small (stem.RtRsImm w) va n o = omega arith
-filled_small (stem.RtBase w) va n o = omega arith
-filled_small (stem.ExtPosSize w) va n o = omega arith
-filled_small (stem.InsPosSize w) va n o = omega arith
-
-pub four_slots : (xs : List Operand) → length xs ≡ 4 → four (operand_at xs 0) (operand_at xs 1) (operand_at xs 2) (operand_at xs 3) ≡ operand_at xs
-four_slots xs h = fun_ext (go xs h)
-  where
-    go : (ys : List Operand) → length ys ≡ 4 → (n : ℕ) → four (operand_at ys 0) (operand_at ys 1) (operand_at ys 2) (operand_at ys 3) n ≡ operand_at ys n
-    go ys l zero = refl
-    go ys l (suc zero) = refl
-    go ys l (suc (suc zero)) = refl
-    go ys l (suc (suc (suc zero))) = refl
-    go ys l (suc (suc (suc (suc n)))) = ap (λ (o : Operand). o.op) (sym (get_or-eq_default ys unused {n = suc (suc (suc (suc n)))} (omega arith)))
+filled_small φ va n o = grind arith

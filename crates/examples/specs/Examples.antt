@@ -1,10 +1,9 @@
 -- Document 01's examples that are marked P, a line of the table for each word, and its example of the program `sweep`.
 -- Where the document has no address the line holds at every address; each holds with and without the width flag.
-use Rattle.std.specs.Prelude.{ℕ, ◌/◌, ◌%◌, ◌≡◌, Bool, false, List, [], ◌∷◌, ◌++◌, pos, ◌-ℤ◌, length}
+use Rattle.std.specs.Prelude.{ℕ, ◌/◌, ◌%◌, ◌≡◌, Bool, false, List, [], ◌∷◌, ◌++◌, pos, ◌-ℤ◌, length, Some}
 use Prim.Native.String.{String}
 use Rattle.reading.specs.declared.Op.{Op}
 use Rattle.reading.specs.declared.Op.TheVariants.{Reg, Imm, Addr}
-use Rattle.reading.specs.declared.Target.TheVariants as target
 use Rattle.reading.specs.declared.Decoded.{Decoded}
 use Rattle.reading.specs.Reading.{refused_of}
 use Rattle.reading.specs.Kind as kind
@@ -36,7 +35,7 @@ abbrev pub Answers : Answer → (ℕ → Decoded) → ℕ → Type 0
 Answers (reads k os) answer w = Reads k os (answer w)
 Answers (encoded k os v) answer w = Reads k os (answer w) × Encodes answer (answer w).insn (encoded_as v)
 Answers (unmarked k os) answer w = Reads k os (answer w) × ((answer w).insn.delay_slot ≡ false)
-Answers (goes a) answer w = ((answer w).number ≡ 0) × ((answer w).insn.target ≡ target.At a)
+Answers (goes a) answer w = ((answer w).number ≡ 0) × ((answer w).insn.target ≡ Some a)
 Answers (refused n) answer w = answer w ≡ refused_of n
 
 pub record Line : Type 0 where

@@ -1,96 +1,102 @@
 // Document 01's examples that are not marked P: decodes each and writes what it found, a line for each.
-// Those marked P are proved in proofs/, of the definition. Stands on `decode` and the kit's `io`.
+// Those marked P are proved in proofs/, of the definition. Depends on `decode`, whose answers are of `reading` and
+// `refusal`, and on the kit's `io`; the other crates of crates.txt are those that specs/ and proofs/ speak of.
 #![tactic(auto)]
 
-use reading::{Decoded, Insn, Op, kind};
+use reading::{Effect, Insn, Op, kind};
+use refusal::Refusal;
 
 const OUT: i32 = 1;
 
 // 0x0080102d, its highest byte first, and a byte that does not count.
 const FIVE: [u8; 5] = [0x00, 0x80, 0x10, 0x2d, 0xff];
 
+// `print!` is no plainer here: `main` would take a runtime for it, and each call give a `Result` to hand on.
+fn say(text: &[u8]) {
+    io::write_all(OUT, text);
+}
+
 fn say_register(n: u8) {
-    if n == 0 {
-        io::write_all(OUT, b"zero");
-    } else if n == 2 {
-        io::write_all(OUT, b"v0");
-    } else if n == 4 {
-        io::write_all(OUT, b"a0");
-    } else {
-        io::print_decimal(OUT, n as u64);
+    match n {
+        0 => say(b"zero"),
+        2 => say(b"v0"),
+        4 => say(b"a0"),
+        _ => say_number(u64::from(n)),
     }
 }
 
-// The examples here have registers, and no negative number.
+fn say_number(n: u64) {
+    io::print_decimal(OUT, n);
+}
+
+// The examples here have registers.
 fn say_operand(o: Op) {
-    let p = reading::op_parts(o);
-    if p.number == 1 {
-        say_register(p.first);
-    } else {
-        io::print_decimal(OUT, word::twos_complement(p.value));
+    match o {
+        Op::Reg(n) => say_register(n),
+        Op::Imm(z) => say_number(z.cast_unsigned()),
+        _ => say(b"another"),
     }
 }
 
 fn say_mnemonic(m: u8) {
-    if m == kind::MOVE {
-        io::write_all(OUT, b"move ");
-    } else if m == kind::DADDU {
-        io::write_all(OUT, b"daddu ");
-    } else {
-        io::write_all(OUT, b"another ");
+    match m {
+        kind::MOVE => say(b"move "),
+        kind::DADDU => say(b"daddu "),
+        _ => say(b"another "),
     }
 }
 
 // Two operands or three.
 fn say_reading(i: Insn) {
-    let ops = i.ops;
-    let first = ops[0];
-    let second = ops[1];
-    let third = ops[2];
-    let a = first.op;
-    let b = second.op;
-    let c = third.op;
     say_mnemonic(i.mnemonic);
-    say_operand(a);
-    io::write_all(OUT, b", ");
-    say_operand(b);
+    say_operand(i.ops[0].op);
+    say(b", ");
+    say_operand(i.ops[1].op);
     if i.count == 3 {
-        io::write_all(OUT, b", ");
-        say_operand(c);
+        say(b", ");
+        say_operand(i.ops[2].op);
     }
 }
 
-fn say_answer(d: Decoded) {
-    let i = d.insn;
-    io::write_all(OUT, b"number ");
-    io::print_decimal(OUT, d.number as u64);
-    if d.number == 0 {
-        io::write_all(OUT, b", ");
-        say_reading(i);
+fn say_answer(answer: Result<Insn, Refusal>) {
+    match answer {
+        Ok(i) => {
+            say(b"number 0, ");
+            say_reading(i);
+        }
+        Err(refusal) => {
+            say(b"number ");
+            say_number(u64::from(u8::from(refusal)));
+        }
     }
-    io::write_all(OUT, b"\n");
+    say(b"\n");
 }
 
-// What `lui` leaves in its register.
-fn say_value(d: Decoded) {
-    let i = d.insn;
-    let e = i.effect;
-    let p = reading::effect_parts(e);
-    io::write_all(OUT, b"value 0x");
-    io::print_hex(OUT, p.address, 16);
-    io::write_all(OUT, b"\n");
+// What `lui` leaves in its register; 0 for another word.
+fn say_value(answer: Result<Insn, Refusal>) {
+    let value = match answer {
+        Ok(
+            Insn {
+                effect: Effect::SetAddr(_, value),
+                ..
+            },
+        ) => value,
+        _ => 0,
+    };
+    say(b"value 0x");
+    io::print_hex(OUT, value, 16);
+    say(b"\n");
 }
 
 fn main() {
-    io::write_all(OUT, b"3c048000: ");
+    say(b"3c048000: ");
     say_value(decode::decode_word(0x3c048000, 0, false));
-    io::write_all(OUT, b"0080102d with the flag: ");
+    say(b"0080102d with the flag: ");
     say_answer(decode::decode_word(0x0080102d, 0, true));
-    io::write_all(OUT, b"0080102d without it: ");
+    say(b"0080102d without it: ");
     say_answer(decode::decode_word(0x0080102d, 0, false));
-    let five = FIVE;
-    io::write_all(OUT, b"three bytes: ");
-    say_answer(decode::decode(&five[..3], 0, true, true));
-    io::write_all(OUT, b"five bytes: ");
-    say_answer(decode::decode(&five, 0, true, true));
+    say(b"three bytes: ");
+    say_answer(decode::decode(&FIVE[..3], 0, true, true));
+    say(b"five bytes: ");
+    say_answer(decode::decode(&FIVE, 0, true, true));
 }

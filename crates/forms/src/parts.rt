@@ -1,314 +1,207 @@
-// The answer of a mnemonic, its operands and its effect: the source's closures and its `i`.
-ghost use Rattle.std.specs.Prelude.{true, false, cond, [], ◌∷◌, ◌≡◌, eqb, pos};
+// The reading of a mnemonic, its operands and its effect: the source's closures and its `i`.
+ghost use Rattle.std.specs.Prelude.{true, false, cond, [], ◌∷◌, ◌++◌, ◌≡◌, ◌≤◌, eqb, length, get_or, None, Some};
 ghost use Rattle.classes.specs.Meaning.{slots};
 ghost use Rattle.word.specs.Word as word;
 ghost use Rattle.word.specs.Word.{fields_of};
 ghost use Rattle.word.specs.Numbers.{imm, signed};
 ghost use Rattle.reading.specs.Kind as kind;
+ghost use Rattle.reading.specs.Reading.{operand};
 ghost use Rattle.reading.specs.declared.Effect.TheVariants as effect;
 ghost use Rattle.reading.specs.declared.Flow.TheVariants as flow;
 ghost use Rattle.reading.specs.declared.Op.TheVariants as op;
-ghost use Rattle.reading.specs.declared.Target.TheVariants as target;
 ghost use Rattle.forms.specs.Read as read;
-ghost use Rattle.forms.specs.Private.Answer.{straight, written, field, accessed, float_accessed, turning, both_to};
+ghost use Rattle.forms.specs.Private.Answer.{straight, field, accessed, float_accessed, turning};
 
-use reading::{Decoded, Effect, Flow, Insn, Op, Operand, Target, kind};
+use crate::field;
+use reading::{Effect, Flow, Insn, Op, Operand, kind};
 
 // The register that `jr` returns by and that `jalr` leaves unnamed.
 const RA: u8 = 31;
 
-// ── operands with a signed number in them ──
-
-pub(crate) fn imm(z: i64) -> Op
-    ensures { result ≡ op.Imm z }
+// The operand at a place; one that is not used is register 0.
+fn slot(ops: &[Op], place: usize) -> Operand
+    ensures { result ≡ operand (get_or ops.now place (op.Reg 0)) }
 {
-    Op::Imm(z)
+    Operand {
+        op: ops.get(place).copied().unwrap_or(Op::Reg(0)),
+    }
 }
 
-// A field as a number.
-pub(crate) fn num(x: u8) -> Op
-    ensures { result ≡ op.Imm (pos x) }
+// Place by place: with `array::from_fn` the proof did not close.
+#[tactic(auto, using(crate::proofs::Slots::by_place))]
+fn slots<const N: usize>(ops: [Op; N]) -> [Operand; 4]
+    ensures { result ≡ slots ops.entry }
 {
-    imm(word::number(x))
-}
-
-// offset(base)
-pub(crate) fn mem(z: i64, base: u8) -> Op
-    ensures { result ≡ op.Mem z base }
-{
-    Op::Mem(z, base)
+    [slot(&ops, 0), slot(&ops, 1), slot(&ops, 2), slot(&ops, 3)]
 }
 
 // ── on to the next word: the source's `i`, with the effect that the arm gives it ──
 
-// The first `count` of the four operands are used; one that is not used is register 0.
-fn i(m: u8, count: u8, a: Op, b: Op, c: Op, d: Op, flow: Flow, effect: Effect) -> Decoded
-    ensures { result ≡ read.made m count (slots (a ∷ b ∷ c ∷ d ∷ [])) flow target.None false effect }
+pub(crate) fn alone(m: u8, flow: Flow) -> Insn
+    ensures { result ≡ read.alone m flow }
 {
-    Decoded {
-        number: 0,
-        insn: Insn {
-            mnemonic: m,
-            count,
-            ops: [
-                Operand { op: a },
-                Operand { op: b },
-                Operand { op: c },
-                Operand { op: d },
-            ],
-            flow,
-            target: Target::None,
-            delay_slot: false,
-            effect,
-        },
+    Insn {
+        mnemonic: m,
+        count: 0,
+        ops: slots([]),
+        flow,
+        target: None,
+        delay_slot: false,
+        effect: Effect::None,
     }
 }
 
-pub(crate) fn alone(m: u8, flow: Flow) -> Decoded
-    ensures { result ≡ read.alone m flow }
+// A reading has four slots, and the type of an array cannot say that N is at most 4: so each function of N asks for it.
+pub(crate) fn straight<const N: usize>(m: u8, ops: [Op; N], effect: Effect) -> Insn
+    requires { N ≤ 4 }
+    ensures { result ≡ straight m ops.entry effect }
 {
-    i(
-        m,
-        0,
-        Op::Reg(0),
-        Op::Reg(0),
-        Op::Reg(0),
-        Op::Reg(0),
-        flow,
-        Effect::None,
-    )
-}
-
-pub(crate) fn one(m: u8, a: Op, effect: Effect) -> Decoded
-    ensures { result ≡ straight m (a ∷ []) effect }
-{
-    i(
-        m,
-        1,
-        a,
-        Op::Reg(0),
-        Op::Reg(0),
-        Op::Reg(0),
-        Flow::None,
+    Insn {
+        mnemonic: m,
+        count: N as u8,
+        ops: slots(ops),
+        flow: Flow::None,
+        target: None,
+        delay_slot: false,
         effect,
-    )
+    }
 }
 
-pub(crate) fn two(m: u8, a: Op, b: Op, effect: Effect) -> Decoded
-    ensures { result ≡ straight m (a ∷ b ∷ []) effect }
+// A register is written.
+pub(crate) fn write<const N: usize>(m: u8, to: u8, ops: [Op; N]) -> Insn
+    requires { N ≤ 4 }
+    ensures { result ≡ straight m ops.entry (effect.Write to) }
 {
-    i(m, 2, a, b, Op::Reg(0), Op::Reg(0), Flow::None, effect)
+    straight(m, ops, Effect::Write(to))
 }
 
-pub(crate) fn three(m: u8, a: Op, b: Op, c: Op, effect: Effect) -> Decoded
-    ensures { result ≡ straight m (a ∷ b ∷ c ∷ []) effect }
+// None is, or none of the general registers.
+pub(crate) fn act<const N: usize>(m: u8, ops: [Op; N]) -> Insn
+    requires { N ≤ 4 }
+    ensures { result ≡ straight m ops.entry effect.None }
 {
-    i(m, 3, a, b, c, Op::Reg(0), Flow::None, effect)
-}
-
-// ── a register is written ──
-
-pub(crate) fn write_one(m: u8, to: u8) -> Decoded
-    ensures { result ≡ written m to [] }
-{
-    one(m, Op::Reg(to), Effect::Write(to))
-}
-
-pub(crate) fn write_two(m: u8, to: u8, b: Op) -> Decoded
-    ensures { result ≡ written m to (b ∷ []) }
-{
-    two(m, Op::Reg(to), b, Effect::Write(to))
-}
-
-pub(crate) fn write_three(m: u8, to: u8, b: Op, c: Op) -> Decoded
-    ensures { result ≡ written m to (b ∷ c ∷ []) }
-{
-    three(m, Op::Reg(to), b, c, Effect::Write(to))
+    straight(m, ops, Effect::None)
 }
 
 // `ext`, `ins`.
-pub(crate) fn bit_field(m: u8, w: u32, size: i64) -> Decoded
-    ensures { result ≡ field m (fields_of w word.rt) (fields_of w word.rs) (fields_of w word.sa) size }
+pub(crate) fn bit_field(m: u8, w: u32, size: i64) -> Insn
+    ensures { result ≡
+        field m (fields_of w word.rt) (fields_of w word.rs) (fields_of w word.sa) size }
 {
-    let rt = word::rt(w);
-    let rs = Op::Reg(word::rs(w));
-    let sa = num(word::sa(w));
-    i(
+    write(
         m,
-        4,
-        Op::Reg(rt),
-        rs,
-        sa,
-        imm(size),
-        Flow::None,
-        Effect::Write(rt),
+        word::rt(w),
+        [
+            field::rt(w),
+            field::rs(w),
+            field::number(word::sa(w)),
+            Op::Imm(size),
+        ],
     )
 }
 
 // ── immediates ──
 
-pub(crate) fn add(m: u8, to: u8, from: u8, z: i64) -> Decoded
-    ensures { result ≡ straight m (op.Reg to ∷ op.Reg from ∷ op.Imm z ∷ []) (effect.AddImm to from z) }
+pub(crate) fn add(m: u8, to: u8, from: u8, z: i64) -> Insn
+    ensures { result ≡
+        straight m (op.Reg to ∷ op.Reg from ∷ op.Imm z ∷ []) (effect.AddImm to from z) }
 {
-    three(
+    straight(
         m,
-        Op::Reg(to),
-        Op::Reg(from),
-        Op::Imm(z),
+        [Op::Reg(to), Op::Reg(from), Op::Imm(z)],
         Effect::AddImm(to, from, z),
     )
 }
 
 // `li`. The source has rs in the effect, and rs is 0 here.
-pub(crate) fn set(to: u8, z: i64) -> Decoded
+pub(crate) fn set(to: u8, z: i64) -> Insn
     ensures { result ≡ straight kind.li (op.Reg to ∷ op.Imm z ∷ []) (effect.AddImm to 0 z) }
 {
-    two(kind::LI, Op::Reg(to), Op::Imm(z), Effect::AddImm(to, 0, z))
+    straight(
+        kind::LI,
+        [Op::Reg(to), Op::Imm(z)],
+        Effect::AddImm(to, 0, z),
+    )
 }
 
 // `lui`.
-pub(crate) fn set_upper(to: u8, z: i64, value: u64) -> Decoded
+pub(crate) fn set_upper(to: u8, z: i64, value: u64) -> Insn
     ensures { result ≡ straight kind.lui (op.Reg to ∷ op.Imm z ∷ []) (effect.SetAddr to value) }
 {
-    two(kind::LUI, Op::Reg(to), imm(z), Effect::SetAddr(to, value))
+    straight(
+        kind::LUI,
+        [Op::Reg(to), Op::Imm(z)],
+        Effect::SetAddr(to, value),
+    )
 }
 
 // ── loads and stores ──
 
 // The effect names the register that is loaded, and 0 where no general register is.
-pub(crate) fn access(m: u8, size: u8, a: Op, loaded: u8, w: u32) -> Decoded
-    ensures { result ≡ accessed m size a loaded (signed 16 (imm (fields_of w))) (fields_of w word.rs) }
+pub(crate) fn access(m: u8, size: u8, a: Op, loaded: u8, w: u32) -> Insn
+    ensures { result ≡
+        accessed m size a loaded (signed 16 (imm (fields_of w))) (fields_of w word.rs) }
 {
-    let base = word::rs(w);
-    let z = word::simm(w);
-    two(m, a, Op::Mem(z, base), Effect::Mem(loaded, base, z, size))
+    let effect = Effect::Mem(loaded, word::rs(w), word::simm(w), size);
+    straight(m, [a, field::base(w)], effect)
 }
 
 // `lwc1`, `ldc1`, `swc1`, `sdc1`: no general register is loaded.
-pub(crate) fn ft_base(m: u8, size: u8, w: u32) -> Decoded
+pub(crate) fn ft_base(m: u8, size: u8, w: u32) -> Insn
     ensures { result ≡
         float_accessed m size (fields_of w word.rt) (signed 16 (imm (fields_of w))) (fields_of w word.rs) }
 {
-    let ft = word::rt(w);
-    access(m, size, Op::FReg(ft), 0, w)
+    access(m, size, field::ft(w), 0, w)
 }
 
 // ── a delay slot: the source's `branch`, and its `Insn` for jumps ──
 
-fn turn(m: u8, count: u8, a: Op, b: Op, c: Op, flow: Flow, target: Target) -> Decoded
-    ensures { result ≡ read.made m count (slots (a ∷ b ∷ c ∷ [])) flow target true effect.None }
+fn turn(m: u8, count: u8, ops: [Operand; 4], flow: Flow, target: Option<u64>) -> Insn
+    ensures { result ≡ read.made m count ops flow target true effect.None }
 {
-    Decoded {
-        number: 0,
-        insn: Insn {
-            mnemonic: m,
-            count,
-            ops: [
-                Operand { op: a },
-                Operand { op: b },
-                Operand { op: c },
-                Operand { op: Op::Reg(0) },
-            ],
-            flow,
-            target,
-            delay_slot: true,
-            effect: Effect::None,
-        },
+    Insn {
+        mnemonic: m,
+        count,
+        ops,
+        flow,
+        target,
+        delay_slot: true,
+        effect: Effect::None,
     }
 }
 
-// To an address, by no register, by one or by two.
-pub(crate) fn to(m: u8, flow: Flow, t: u64) -> Decoded
-    ensures { result ≡ turning m (op.Addr t ∷ []) flow (target.At t) }
+// To an address, the last operand, by the registers before it.
+#[tactic(auto, using(crate::proofs::Slots::one_more))]
+pub(crate) fn to<const N: usize>(m: u8, flow: Flow, registers: [Op; N], t: u64) -> Insn
+    requires { N ≤ 3 }
+    ensures { result ≡ turning m (registers.entry ++ op.Addr t ∷ []) flow (Some t) }
 {
-    turn(
-        m,
-        1,
-        Op::Addr(t),
-        Op::Reg(0),
-        Op::Reg(0),
-        flow,
-        Target::At(t),
-    )
-}
-
-pub(crate) fn rs_to(m: u8, flow: Flow, w: u32, t: u64) -> Decoded
-    ensures { result ≡ turning m (op.Reg (fields_of w word.rs) ∷ op.Addr t ∷ []) flow (target.At t) }
-{
-    turn(
-        m,
-        2,
-        Op::Reg(word::rs(w)),
-        Op::Addr(t),
-        Op::Reg(0),
-        flow,
-        Target::At(t),
-    )
-}
-
-pub(crate) fn rs_rt_to(m: u8, flow: Flow, w: u32, t: u64) -> Decoded
-    ensures { result ≡ both_to m (fields_of w word.rs) (fields_of w word.rt) flow t }
-{
-    let rs = Op::Reg(word::rs(w));
-    turn(
-        m,
-        3,
-        rs,
-        Op::Reg(word::rt(w)),
-        Op::Addr(t),
-        flow,
-        Target::At(t),
-    )
+    let mut ops = slots(registers);
+    ops[N] = Operand { op: Op::Addr(t) };
+    turn(m, N as u8 + 1, ops, flow, Some(t))
 }
 
 // To a register: `jr`, and `jalr` with the register that gets the address to return to.
-pub(crate) fn jr(rs: u8) -> Decoded
-    ensures { result ≡ turning kind.jr (op.Reg rs ∷ []) (cond (eqb rs 31) flow.Ret flow.Jump) target.None }
+pub(crate) fn jr(rs: u8) -> Insn
+    ensures { result ≡ turning kind.jr (op.Reg rs ∷ []) (cond (eqb rs 31) flow.Ret flow.Jump) None }
 {
-    if rs == RA {
-        return turn(
-            kind::JR,
-            1,
-            Op::Reg(rs),
-            Op::Reg(0),
-            Op::Reg(0),
-            Flow::Ret,
-            Target::None,
-        );
-    }
-    turn(
-        kind::JR,
-        1,
-        Op::Reg(rs),
-        Op::Reg(0),
-        Op::Reg(0),
-        Flow::Jump,
-        Target::None,
-    )
+    let flow = if rs == RA { Flow::Ret } else { Flow::Jump };
+    turn(kind::JR, 1, slots([Op::Reg(rs)]), flow, None)
 }
 
-pub(crate) fn link(rd: u8, rs: u8) -> Decoded
+#[tactic(auto, unfolding(crate::proofs::Columns::row_reading))]
+pub(crate) fn link(rd: u8, rs: u8) -> Insn
     ensures { result ≡
         read.turned kind.jalr (cond (eqb rd 31) (op.Reg rs ∷ []) (op.Reg rd ∷ op.Reg rs ∷ [])) flow.Call }
 {
     if rd == RA {
-        return turn(
-            kind::JALR,
-            1,
-            Op::Reg(rs),
-            Op::Reg(0),
-            Op::Reg(0),
-            Flow::Call,
-            Target::None,
-        );
+        return turn(kind::JALR, 1, slots([Op::Reg(rs)]), Flow::Call, None);
     }
     turn(
         kind::JALR,
         2,
-        Op::Reg(rd),
-        Op::Reg(rs),
-        Op::Reg(0),
+        slots([Op::Reg(rd), Op::Reg(rs)]),
         Flow::Call,
-        Target::None,
+        None,
     )
 }

@@ -11,3 +11,4 @@ pub mod Restored
 pub mod Later
 pub mod Same
 pub mod Proved
+pub mod One

@@ -10,6 +10,7 @@
 -- The test is `good` (Good.antt): each word is in one row or refused (`exact`); a row's operands are made of exactly
 -- the fields that it reads, none twice, at most four; the values of its other fields can be the least ones; and a row
 -- has the mnemonic of a later one only if it is its twin, with the same manner and with words that are no larger.
+use Rattle.inverse.specs.Encoded.{Encoded, Has, encoded_as, Encodes, smallest, no_word}
 use Prim.Native.Nat.{ℕ, ◌<◌, ◌≤◌}
 use mathlib.Core.Path.{◌≡◌, refl, sym, ◌∙◌, ap}
 use mathlib.Core.Bool.{Bool, true, false}
@@ -23,7 +24,6 @@ use Rattle.refusal.specs.Numbers as refusal
 use Rattle.word.specs.Word.{fields_of, words}
 use Rattle.reading.specs.declared.Insn.{Insn}
 use Rattle.reading.specs.declared.Decoded.{Decoded}
-use Rattle.reading.specs.declared.Encoded.{Encoded}
 use Rattle.classes.specs.Row.{Row}
 use Rattle.classes.specs.Meaning.{find, int_of}
 use Rattle.classes.specs.Table.{table}
@@ -31,7 +31,6 @@ use Rattle.classes.specs.Refusals.{Refusal, refusals}
 use Rattle.reading.specs.Reading.{accepted_as}
 use Rattle.classes.specs.Decoded.{decoded_of}
 use Rattle.classes.proofs.Accepts.{accepted_as_lem, accepted_insn}
-use Rattle.inverse.specs.Encoded.{Has, encoded_as, Encodes, smallest, no_word}
 use Rattle.inverse.specs.Least.{Least}
 use Rattle.inverse.specs.Theorems.{Accepted, Demand3, Theorems}
 use Rattle.inverse.proofs.Good.{good}

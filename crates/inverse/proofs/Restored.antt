@@ -1,4 +1,5 @@
 -- The word that a word's reading gets: which row it is of, and its fields. And that what its class does not read of it is zero.
+use Rattle.inverse.specs.Encoded.{Encoded, Encodes, smallest, no_word}
 use Prim.Native.Nat.{ℕ, ◌+◌, ◌%◌, ◌^◌, ◌<◌, ◌≤◌}
 use mathlib.Core.Path.{◌≡◌, refl, sym, ◌∙◌, ap, subst}
 use mathlib.Core.Bool.{Bool, true, false, not, cond, ◌&&◌, ◌||◌}
@@ -14,7 +15,6 @@ use Rattle.word.proofs.Fields.{fields_fit, fields_word}
 use Rattle.reading.specs.declared.Op.{Op}
 use Rattle.reading.specs.declared.Insn.{Insn}
 use Rattle.reading.specs.declared.Decoded.{Decoded}
-use Rattle.reading.specs.declared.Encoded.{Encoded}
 use Rattle.reading.specs.Kind as kind
 use Rattle.classes.specs.Row.{Pat, is, read, read_but, zeros, extra, skip_but, low, Row, pat_of}
 use Rattle.classes.specs.Meaning.{match, takes, find, outs, meaning}
@@ -24,7 +24,6 @@ use Rattle.classes.proofs.Boxes.{taken_or_refused}
 use Rattle.classes.proofs.Accepts.{accepted_insn}
 use Rattle.classes.proofs.Find.{In, every, every_in, find_in, only_row}
 use Rattle.classes.proofs.Uses.{is_read}
-use Rattle.inverse.specs.Encoded.{Encodes, smallest, no_word}
 use Rattle.inverse.specs.Least.{ZeroAt, NeedsOne, rotr, sll_by_0, sll_by_1, Least}
 use Rattle.inverse.specs.Private.Fill.{filled}
 use Rattle.inverse.specs.Private.Candidate.{least, base, suits, is_nop, after_nops, candidate}

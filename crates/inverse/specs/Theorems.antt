@@ -1,18 +1,17 @@
 -- DEMAND 3, stated over demand 2's definition: when two words share a reading, and which word a reading gets. The
 -- proofs are in proofs/Proved.antt.
+use Rattle.inverse.specs.Encoded.{Encoded, Encodes}
 use Rattle.std.specs.Prelude.{ℕ, ◌<◌, ◌≤◌, ◌≡◌, Bool, List, ◌↔◌, T}
 use Rattle.std.proofs.Math.Option.{some}
 use Rattle.word.specs.Word.{fields_of, words}
 use Rattle.reading.specs.declared.Insn.{Insn}
 use Rattle.reading.specs.declared.Decoded.{Decoded}
-use Rattle.reading.specs.declared.Encoded.{Encoded}
 use Rattle.classes.specs.Row.{Row}
 use Rattle.classes.specs.Meaning.{find}
 use Rattle.classes.specs.Table.{table}
 use Rattle.classes.specs.Refusals.{Refusal, refusals}
 use Rattle.classes.specs.Decoded.{decoded_by, decoded_of}
 use Rattle.inverse.specs.Same.{Alike}
-use Rattle.inverse.specs.Encoded.{Encodes}
 use Rattle.inverse.specs.Least.{Least}
 
 abbrev pub Accepted : (ℕ → Decoded) → ℕ → Type 0

@@ -1,14 +1,16 @@
 -- What printing answers and writes in each of its three cases.
 use Prim.Native.Nat.{ℕ, ◌≤◌, ◌<◌}
-use mathlib.Core.Path.{◌≡◌, sym, subst, ◌∙◌}
-use mathlib.Core.Bool.{Bool, true, false}
+use mathlib.Core.Path.{◌≡◌}
+use mathlib.Core.Bool.{true, false, ◌&&◌}
 use mathlib.Core.List.{List, []}
-use lib.Dec.{T}
+use lib.Dec.{ltb, leb, leb→le}
 use lib.ListN.{length}
 use borrow.Author.Tests.{le-leb, lt-leb}
 use Rattle.refusal.specs.Numbers as refusal
 use Rattle.reading.specs.declared.Insn.{Insn}
-use Rattle.line.specs.Line.{Spelling, line_of, printable, print_number, printed, printed_of}
+use Rattle.reading.specs.Kind.{many}
+use Rattle.laws.proofs.Tests.{and_l, and_r, at_true}
+use Rattle.line.specs.Line.{Spelling, used, line_of, all_registered, printable, print_number, printed, printed_of}
 
 -- the number n is the answer, and l is written
 pub record Answers (σ : Spelling) (i : Insn) (room n : ℕ) (l : List ℕ) : Type 0 where
@@ -36,5 +38,10 @@ module _ (σ : Spelling) (i : Insn) (room : ℕ) where
       let e = le-leb (length (line_of σ i)) room h in
       record { number = rw (p, e); bytes = rw (p, e) }
 
-pub never : {b : Bool} → b ≡ true → b ≡ false → ⊥
-never p q = subst T (sym p ∙ q) tt
+-- what has a line has at most four operands
+pub few : (i : Insn) → printable i ≡ true → i.count ≤ 4
+unfolding printable
+few i e =
+    leb→le i.count 4
+    (and_l (leb i.count 4) (all_registered (used i))
+    (and_r (ltb i.mnemonic many) (leb i.count 4 && all_registered (used i)) (at_true e)))

@@ -1,7 +1,9 @@
 pub mod Names
+pub mod Drafts
 pub mod Operands
 pub mod Answers
 pub mod Readable
 pub mod Short
 pub mod Unbroken
 pub mod Proved
+pub mod One

@@ -1,21 +1,17 @@
 -- A padded name without its zeros is the name, and names are short and have no newline: one computed test of the
 -- registers, and one of the mnemonics.
-use Prim.Native.Nat.{ℕ, zero, suc, ◌+◌, ◌≤◌}
+use Prim.Native.Nat.{ℕ, zero, suc, ◌≤◌}
 use Prim.Native.String.{String}
-use mathlib.Core.Path.{◌≡◌, ap, ◌∙◌}
+use mathlib.Core.Path.{◌≡◌}
 use mathlib.Core.Bool.{Bool, true, ◌&&◌}
 use mathlib.Core.List.{List, [], ◌∷◌}
-use native.Mathlib.Omega.{arith}
 use lib.Dec.{T, leb, leb→le}
 use lib.ListN.{length, get_or}
 use Rattle.reading.specs.Names.{mnemonics, name_of}
 use Rattle.names.specs.Names.{registers, register_bytes, name_bytes}
 use Rattle.text.proofs.Texts.{same_eq}
 use Rattle.laws.proofs.Tests.{and_l, and_r, all_of, EachOf, each_of, true_of}
-use Rattle.buffers.specs.Bytes.{placed}
 use Rattle.text.specs.Text.{letter, letters, padded, same, text_of, before_zero, newline, without}
-use Rattle.buffers.specs.Writes.{Wrote}
-use Rattle.buffers.proofs.Writes.{wrote, first}
 use Rattle.line.specs.Line.{register_name, longest_register, longest_mnemonic}
 
 -- padded to `size` bytes it is still the name; it has at most `most` letters; none of them is a newline
@@ -57,7 +53,7 @@ all_registers : T (are_names 4 4 registers)
 unfolding are_names same before_zero without registers text_of padded letters letter
 all_registers = tt
 
-register_name_lem : (r : ℕ) → before_zero (register_bytes r) ≡ register_name r
+pub register_name_lem : (r : ℕ) → before_zero (register_bytes r) ≡ register_name r
 unfolding register_bytes register_name
 register_name_lem r = name_is 4 4 (get_or registers r "") (each 4 4 registers all_registers r)
 
@@ -75,7 +71,7 @@ all_mnemonics : T (are_names 16 9 mnemonics)
 unfolding are_names same before_zero without mnemonics text_of padded letters letter
 all_mnemonics = tt
 
-mnemonic_name : (k : ℕ) → before_zero (name_bytes k) ≡ text_of (name_of k)
+pub mnemonic_name : (k : ℕ) → before_zero (name_bytes k) ≡ text_of (name_of k)
 unfolding name_bytes name_of
 mnemonic_name k = name_is 16 9 (get_or mnemonics k "") (each 16 9 mnemonics all_mnemonics k)
 
@@ -86,20 +82,3 @@ mnemonic_most k = name_short 16 9 (get_or mnemonics k "") (each 16 9 mnemonics a
 pub mnemonic_without : (k : ℕ) → without newline (text_of (name_of k)) ≡ true
 unfolding name_of
 mnemonic_without k = name_without 16 9 (get_or mnemonics k "") (each 16 9 mnemonics all_mnemonics k)
-
--- ── names that were written, without their zeros ──
-
-pub register_wrote : (r at : ℕ) (d : List ℕ) {n : ℕ} {b d' : List ℕ} → b ≡ register_bytes r →
-    at + longest_register ≤ length d → n ≡ length (before_zero b) → d' ≡ placed at (before_zero b) d →
-    Wrote at longest_register (register_name r) d d' (at + n)
-register_wrote r at d {b = b} e h z w =
-    let p : before_zero b ≡ register_name r = ap before_zero e ∙ register_name_lem r in
-    wrote (register_most r) (omega (arith, register_most r)) (z ∙ ap length p)
-    (w ∙ ap (λ (l : List ℕ). placed at l d) p)
-
-pub mnemonic_wrote : (k : ℕ) (d : List ℕ) {n : ℕ} {b d' : List ℕ} → b ≡ name_bytes k →
-    longest_mnemonic ≤ length d → n ≡ length (before_zero b) → d' ≡ placed 0 (before_zero b) d →
-    Wrote 0 longest_mnemonic (text_of (name_of k)) d d' n
-mnemonic_wrote k d {b = b} e h z w =
-    let p : before_zero b ≡ text_of (name_of k) = ap before_zero e ∙ mnemonic_name k in
-    first (mnemonic_most k) (omega (arith, mnemonic_most k)) (z ∙ ap length p) (w ∙ ap (λ (l : List ℕ). placed 0 l d) p)

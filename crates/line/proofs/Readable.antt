@@ -103,7 +103,8 @@ blank_printable = refl
 pub readable_by : (ts : List Row) (es : List Refusal) → T (every good_row ts) → (w va : ℕ) →
     printable (decoded_by ts es va (fields_of w)).insn ≡ true
 readable_by ts es t w va =
-    reading_by_lem (λ i. printable i ≡ true) good_row blank_printable ts es t va (fields_of w) (λ r. row_printable r w va)
+    reading_by_lem (λ i. printable i ≡ true) good_row blank_printable ts es t va (fields_of w)
+    (λ r. row_printable r w va)
 
 pub readable : (w va : ℕ) (wide : Bool) → printable (decoded_of w va wide).insn ≡ true
 unfolding decoded_of

@@ -114,7 +114,8 @@ blank_short σ = simp length-append (omega (arith, mnemonic_most 0))
 pub short_by : {σ : Spelling} → Within σ → (ts : List Row) (es : List Refusal) → T (every good_row ts) → (w va : ℕ) →
     length (line_of σ (decoded_by ts es va (fields_of w)).insn) ≤ longest
 short_by {σ} s ts es t w va =
-    reading_by_lem (λ i. length (line_of σ i) ≤ longest) good_row (blank_short σ) ts es t va (fields_of w) (row_short s w va)
+    reading_by_lem (λ i. length (line_of σ i) ≤ longest) good_row (blank_short σ) ts es t va (fields_of w)
+    (row_short s w va)
 
 pub short : {σ : Spelling} → Within σ → (w va : ℕ) (wide : Bool) →
     length (line_of σ (decoded_of w va wide).insn) ≤ longest

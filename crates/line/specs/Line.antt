@@ -1,7 +1,9 @@
 -- THE PRINTED LINE of a reading, byte by byte, and which readings have one.
 use Rattle.std.specs.Prelude.{ℕ, ◌^◌, ◌≤◌, ◌<◌, ◌≡◌, Bool, true, ◌&&◌, cond, List, [], ◌∷◌, ◌++◌, ltb, leb, eqb, length}
-use Rattle.std.specs.Prelude.{take, get_or}
+use Rattle.std.specs.Prelude.{take, get_or, Result, Ok, Err}
 use Rattle.refusal.specs.Numbers as refusal
+use Rattle.refusal.specs.declared.Refusal.{Refusal}
+use Rattle.refusal.specs.Refusals.{number_of}
 use Rattle.reading.specs.declared.Op.{Op}
 use Rattle.reading.specs.declared.Op.TheVariants.{Reg, FReg, Imm, Mem, Addr, Cop0}
 use Rattle.reading.specs.declared.Operand.{Operand}
@@ -10,7 +12,6 @@ use Rattle.reading.specs.Kind.{many}
 use Rattle.reading.specs.Names.{name_of}
 use Rattle.text.specs.Text.{text_of, numeral_of, decimal_of, address_of, newline, without}
 use Rattle.names.specs.Names.{registers}
-use Rattle.line.specs.declared.Printed.{Printed}
 
 -- ── how registers and addresses are written ──
 
@@ -95,6 +96,16 @@ pub record Unbroken (σ : Spelling) : Type 0 where
   pub address : (a : ℕ) → without newline (σ.address a) ≡ true
 
 -- ── what printing answers and writes, with this much room ──
+
+-- 0 and how many bytes the line has, or the refusal number and 0
+pub record Printed : Type 0 where
+  pub number : ℕ
+  pub length : ℕ
+
+-- a printer's answer in that number and length
+abbrev pub printing_of : Result ℕ Refusal → Printed
+printing_of (Ok n) = record { number = 0; length = n }
+printing_of (Err r) = record { number = number_of r; length = 0 }
 
 unfoldable pub print_number : Spelling → Insn → ℕ → ℕ
 print_number σ i room = cond (printable i) (cond (leb (length (line_of σ i)) room) 0 refusal.no_room) refusal.no_line

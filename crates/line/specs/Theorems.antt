@@ -1,10 +1,9 @@
 -- WHAT IS PROVED OF THE LINES. The proofs are in proofs/Proved.antt.
-use Rattle.std.specs.Prelude.{ℕ, ◌^◌, ◌-◌, ◌≤◌, ◌≡◌, Bool, true, false, List, [], ◌∷◌, negsuc, length}
+use Rattle.std.specs.Prelude.{ℕ, ◌^◌, ◌-◌, ◌≤◌, ◌≡◌, Bool, true, false, List, [], ◌∷◌, negsuc, length, None}
 use Rattle.reading.specs.declared.Op.TheVariants.{Mem}
 use Rattle.reading.specs.declared.Operand.{Operand}
 use Rattle.reading.specs.declared.Flow.TheVariants as flow
 use Rattle.reading.specs.declared.Effect.TheVariants as effect
-use Rattle.reading.specs.declared.Target.TheVariants as target
 use Rattle.reading.specs.declared.Insn.{Insn}
 use Rattle.reading.specs.Kind as kind
 use Rattle.reading.specs.Reading.{operand}
@@ -26,7 +25,7 @@ long_reading =
       count = 4;
       ops = long_operand ∷ long_operand ∷ long_operand ∷ long_operand ∷ [];
       flow = flow.None;
-      target = target.None;
+      target = None;
       delay_slot = false;
       effect = effect.None;
     }

@@ -1,18 +1,19 @@
 // The printed line of a reading: mnemonic and operands, as the source's `format!`s would have them.
-// Depends on `names` for the names and on `text` for the numbers; specs/Line.antt says what a line is.
+// Depends on `refusal` and `reading`, on `names` for the names, on `text` and `buffers` for writing. specs/Line.antt
+// says what a line is.
 #![tactic(auto)]
 
-ghost use Rattle.std.specs.Prelude.{◌≡◌, true, ◌++◌, ◌+◌, ◌≤◌, ◌<◌, length};
+ghost use Rattle.std.specs.Prelude.{◌≡◌, true, ◌++◌, ◌+◌, ◌≤◌, length, IsOk};
 ghost use Rattle.reading.specs.declared.Op.TheVariants.{Mem};
 ghost use Rattle.buffers.specs.Bytes.{over};
-ghost use Rattle.text.specs.Text.{numeral_of};
-ghost use Rattle.buffers.specs.Writes.{Wrote};
+ghost use Rattle.text.specs.Text.{numeral_of, decimal_of, address_of, before_zero};
 ghost use Rattle.line.specs.Line as Line;
-ghost use Rattle.line.specs.Line.{plain, op_text, line_of, printed, printed_of};
-ghost use Rattle.line.specs.Line.{longest_register, longest_operand, longest};
-ghost use Rattle.line.specs.Private.Steps.{before};
+ghost use Rattle.line.specs.Line.{plain, op_text, line_of, printing_of, printed, printed_of};
+ghost use Rattle.line.specs.Line.{longest_register, longest_address, longest_operand, longest};
+ghost use Rattle.line.specs.Private.Steps.{Added, longest_number, text_in};
 
 use reading::{Insn, Op, kind};
+use refusal::Refusal;
 
 // Any line fits in this many bytes.
 pub const LONGEST: usize = 120;
@@ -21,25 +22,14 @@ const OPERANDS: u8 = 4;
 
 const REGISTERS: u8 = 32;
 
-// 0 and how many bytes the line has, or the number and 0.
-#[derive(Clone, Copy)]
-pub struct Printed {
-    pub number: u8,
-    pub length: usize,
-}
-
 // ── what has a line ──
 
 fn registered(o: Op) -> bool
     ensures { result ≡ Line.registered o }
 {
     match o {
-        Op::Reg(r) => r < REGISTERS,
-        Op::FReg(r) => r < REGISTERS,
-        Op::Imm(_) => true,
-        Op::Mem(_, r) => r < REGISTERS,
-        Op::Addr(_) => true,
-        Op::Cop0(r) => r < REGISTERS,
+        Op::Reg(r) | Op::FReg(r) | Op::Mem(_, r) | Op::Cop0(r) => r < REGISTERS,
+        Op::Imm(_) | Op::Addr(_) => true,
     }
 }
 
@@ -47,133 +37,141 @@ fn registered(o: Op) -> bool
 fn printable(i: Insn) -> bool
     ensures { result ≡ Line.printable i }
 {
-    if kind::MANY <= i.mnemonic {
+    if kind::MANY <= i.mnemonic || OPERANDS < i.count {
         return false;
     }
-    if OPERANDS < i.count {
-        return false;
+    i.ops[..i.count as usize]
+        .iter()
+        .all(|slot| registered(slot.op))
+}
+
+// ── a line as far as it is written ──
+
+// The bytes up to `end` are its text. No `impl Display`: `write!` says which bytes it writes only where it answers Ok,
+// and nothing in std says that it does, while `print` states the bytes of every line (`printed`).
+#[derive(Drop)]
+struct Draft {
+    bytes: [u8; LONGEST],
+    end: usize,
+}
+
+// Each of these adds a text at the end. `written` has room for each: no draft is longer than the longest line.
+// `impl Model`, as `text::Numeral` has it, would take none of the clauses away: each asks for the room of its own text,
+// and `Added` would still have to say how much of it was used.
+impl Draft {
+    fn push_bytes(&mut self, text: &[u8])
+        requires { self.old.end + length text.now ≤ longest }
+        ensures { Added (length text.now) text.now self.old self.new }
+    {
+        buffers::put(text, &mut self.bytes, self.end);
+        self.end += text.len();
     }
-    let ops = i.ops;
-    let count = i.count as usize;
-    let mut k: usize = 0;
-    while k < count {
-        let s = ops[k];
-        let o = s.op;
-        if !registered(o) {
-            return false;
+
+    // A name without the zeros after it.
+    fn push_name(&mut self, name: &[u8])
+        requires { self.old.end + length name.now ≤ longest }
+        ensures { Added (length (before_zero name.now)) (before_zero name.now) self.old self.new }
+    {
+        self.end += text::name(name, &mut self.bytes, self.end);
+    }
+
+    fn push_number(&mut self, n: u8)
+        requires { self.old.end + longest_number ≤ longest }
+        ensures { Added longest_number (numeral_of 10 n) self.old self.new }
+    {
+        self.end += text::count(n as u64, &mut self.bytes, self.end);
+    }
+
+    fn push_signed(&mut self, x: i64)
+        requires { self.old.end + longest_number ≤ longest }
+        ensures { Added longest_number (decimal_of x) self.old self.new }
+    {
+        self.end += text::decimal(x, &mut self.bytes, self.end);
+    }
+
+    fn push_address(&mut self, a: u64)
+        requires { self.old.end + longest_address ≤ longest }
+        ensures { Added longest_address (address_of a) self.old self.new }
+    {
+        self.end += text::address(a, &mut self.bytes, self.end);
+    }
+
+    fn push_register(&mut self, r: u8)
+        requires { self.old.end + longest_register ≤ longest }
+        ensures { Added longest_register (plain.register r) self.old self.new }
+    {
+        self.push_name(&names::register(r));
+    }
+
+    fn push_memory(&mut self, offset: i64, base: u8)
+        requires { self.old.end + longest_operand ≤ longest }
+        ensures { Added longest_operand (op_text plain (Mem offset base)) self.old self.new }
+    {
+        self.push_signed(offset);
+        self.push_bytes(b"(");
+        self.push_register(base);
+        self.push_bytes(b")");
+    }
+
+    // A letter or three, and a number.
+    fn push_numbered(&mut self, before: &[u8], r: u8)
+        requires { (length before.now ≤ 3) × (self.old.end + longest_operand ≤ longest) }
+        ensures { Added longest_operand (before.now ++ numeral_of 10 r) self.old self.new }
+    {
+        self.push_bytes(before);
+        self.push_number(r);
+    }
+
+    fn push_operand(&mut self, o: Op)
+        requires { self.old.end + longest_operand ≤ longest }
+        ensures { Added longest_operand (op_text plain o) self.old self.new }
+    {
+        match o {
+            Op::Reg(r) => self.push_register(r),
+            Op::FReg(r) => self.push_numbered(b"f", r),
+            Op::Imm(z) => self.push_signed(z),
+            Op::Mem(z, r) => self.push_memory(z, r),
+            Op::Addr(a) => self.push_address(a),
+            Op::Cop0(r) => self.push_numbered(b"c0r", r),
         }
-        k += 1;
-    }
-    true
-}
-
-// ── operands ──
-
-// Each of the functions below writes to `line` from place `at` on, and answers the place after that.
-
-fn register(r: u8, line: &mut [u8], at: usize) -> usize
-    requires { (r < 32) × (at + longest_register ≤ length line.old) }
-    ensures { Wrote at longest_register (plain.register r) line.old line.new result }
-{
-    let name = names::register(r);
-    at + text::name(&name, line, at)
-}
-
-// A letter or three, and a number.
-fn numbered(before: &[u8], r: u8, line: &mut [u8], at: usize) -> usize
-    requires { (length before.now ≤ 3) × (at + longest_operand ≤ length line.old) }
-    ensures { Wrote at longest_operand (before.now ++ numeral_of 10 r)
-        line.old line.new result }
-{
-    buffers::put(before, line, at);
-    let next = at + before.len();
-    next + text::count(r as u64, line, next)
-}
-
-fn memory(offset: i64, base: u8, line: &mut [u8], at: usize) -> usize
-    requires { (base < 32) × (at + longest_operand ≤ length line.old) }
-    ensures { Wrote at longest_operand (op_text plain (Mem offset base))
-        line.old line.new result }
-{
-    let open = at + text::decimal(offset, line, at);
-    buffers::put1(b'(', line, open);
-    let close = register(base, line, open + 1);
-    buffers::put1(b')', line, close);
-    close + 1
-}
-
-fn operand(o: Op, line: &mut [u8], at: usize) -> usize
-    requires { (Line.registered o ≡ true) × (at + longest_operand ≤ length line.old) }
-    ensures { Wrote at longest_operand (op_text plain o) line.old line.new result }
-{
-    match o {
-        Op::Reg(r) => register(r, line, at),
-        Op::FReg(r) => numbered(b"f", r, line, at),
-        Op::Imm(z) => at + text::decimal(z, line, at),
-        Op::Mem(z, r) => memory(z, r, line, at),
-        Op::Addr(a) => at + text::address(a, line, at),
-        Op::Cop0(r) => numbered(b"c0r", r, line, at),
-    }
-}
-
-// A space before the first operand, a comma and a space before each other.
-fn separator(k: usize, line: &mut [u8], at: usize) -> usize
-    requires { at + 2 ≤ length line.old }
-    ensures { Wrote at (length (before k)) (before k) line.old line.new result }
-{
-    if k == 0 {
-        buffers::put1(b' ', line, at);
-        at + 1
-    } else {
-        buffers::put(b", ", line, at);
-        at + 2
     }
 }
 
 // ── the line ──
 
-fn fill(i: Insn, line: &mut [u8; LONGEST]) -> usize
-    requires { Line.printable i ≡ true }
-    ensures { Wrote 0 longest (line_of plain i) line.old line.new result }
+// A space before the first operand, a comma and a space before each other.
+fn written(i: Insn) -> Draft
+    requires { i.count ≤ 4 }
+    ensures { (text_in result ≡ line_of plain i) × (result.end ≤ longest) }
 {
-    let name = names::name_of(i.mnemonic);
-    let mut at = text::name(&name, line, 0);
-    let ops = i.ops;
-    let count = i.count as usize;
-    let mut k: usize = 0;
-    while k < count {
-        let s = ops[k];
-        let o = s.op;
-        let next = separator(k, line, at);
-        at = operand(o, line, next);
-        k += 1;
+    let mut line = Draft {
+        bytes: [0; LONGEST],
+        end: 0,
+    };
+    line.push_name(&names::name_of(i.mnemonic));
+    let mut before: &[u8] = b" ";
+    for slot in &i.ops[..i.count as usize] {
+        line.push_bytes(before);
+        line.push_operand(slot.op);
+        before = b", ";
     }
-    at
+    line
 }
 
-// The line of a reading, to the start of `out`. Where there is room for LONGEST bytes, any line fits.
-pub fn print(i: Insn, out: &mut [u8]) -> Printed
-    ensures value { result ≡ printed_of plain i (length out.old) }
+// The line of a reading, to the start of `out`; answers how many bytes it has. Where there is room for LONGEST bytes,
+// any line fits.
+pub fn print(i: Insn, out: &mut [u8]) -> Result<usize, Refusal>
+    ensures value { printing_of result ≡ printed_of plain i (length out.old) }
     ensures out_after { out.new ≡ over (printed plain i (length out.old)) out.old }
-    ensures number_value { Line.printable i ≡ true → longest ≤ length out.old → result.number ≡ 0 }
+    ensures fits { Line.printable i ≡ true → longest ≤ length out.old → IsOk result }
 {
     if !printable(i) {
-        return Printed {
-            number: refusal::NO_LINE,
-            length: 0,
-        };
+        return Err(Refusal::NoLine);
     }
-    let mut line = [0u8; LONGEST];
-    let n = fill(i, &mut line);
-    if out.len() < n {
-        return Printed {
-            number: refusal::NO_ROOM,
-            length: 0,
-        };
+    let line = written(i);
+    if out.len() < line.end {
+        return Err(Refusal::NoRoom);
     }
-    buffers::put(&line[..n], out, 0);
-    Printed {
-        number: 0,
-        length: n,
-    }
+    buffers::put(&line.bytes[..line.end], out, 0);
+    Ok(line.end)
 }

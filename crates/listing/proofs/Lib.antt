@@ -6,3 +6,4 @@ pub mod Rest
 pub mod Whole
 pub mod Ends
 pub mod Proved
+pub mod One

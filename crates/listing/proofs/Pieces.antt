@@ -6,6 +6,8 @@ use native.Mathlib.Omega.{arith}
 use borrow.Author.Tests.{lt-ltb, le-ltb, eq-eqb, ne_eqb}
 use lib.ListN.{length}
 use Rattle.refusal.specs.Numbers as refusal
+use Rattle.buffers.specs.Bytes.{over}
+use Rattle.listing.specs.Private.Steps.{Ran}
 use Rattle.pages.proofs.Runs.{no_lines, run_most}
 use Rattle.listing.specs.declared.Cursor.{Cursor}
 use Rattle.listing.specs.Piece.{line_at, lines_in, onward, piece_lines, piece_bytes, next_of, piece_number, piece_of}
@@ -55,3 +57,11 @@ module _ (f : List ℕ) (room : ℕ) (c : Cursor) where
     unfolding piece_number
     listed el ea eb en =
         rw (lt-ltb c.line (lines_in f c.section) h, ne_eqb (piece_lines f room c) 0 some, goes, en, eb, ea, el)
+
+-- the lines that were run are the piece
+pub ran_piece : (f : List ℕ) (c : Cursor) (out : List ℕ) {out₁ : List ℕ} {lines bytes : ℕ} →
+    Ran f c.section c.line out out₁ lines bytes →
+    (lines ≡ piece_lines f (length out) c) × (bytes ≡ length (piece_bytes f (length out) c)) ×
+    (out₁ ≡ over (piece_bytes f (length out) c) out)
+unfolding piece_lines piece_bytes
+ran_piece f c out r = (r.fit, rw (← r.fit) r.long, rw (← r.fit) r.text)

@@ -18,7 +18,7 @@ use Rattle.body.specs.Body.{address_at}
 use Rattle.pages.specs.Page.{word_line, longest_line}
 use Rattle.pages.proofs.Runs.{run_fits}
 use Rattle.listing.specs.declared.Cursor.{Cursor}
-use Rattle.listing.specs.declared.Listed.{Listed}
+use Rattle.listing.specs.Piece.{Listed}
 use Rattle.listing.specs.Swept.{view_in, word_count, head_line, line_in, refused_line, swept_of}
 use Rattle.listing.specs.Piece.{last_line, line_at, lines_in, piece_lines, piece_bytes, piece_number, next_of}
 use Rattle.listing.specs.Piece.{cursor_after, written_after}

@@ -3,10 +3,11 @@ use Prim.Native.Nat.{ℕ, suc, ◌+◌, ◌-◌, ◌<◌, ◌≤◌}
 use mathlib.Core.Path.{◌≡◌, refl, sym, ap, ◌∙◌}
 use mathlib.Core.List.{List, ◌++◌, append-nil}
 use native.Mathlib.Numerals.{add-one}
-use native.Mathlib.Decide.{dec_le}
+use native.Mathlib.Decide.{dec_le, ℕ_discrete}
+use mir.Val.{bool_byte}
 use native.Mathlib.Omega.{arith}
 use borrow.Author.Tests.{le-leb, lt-ltb, le-ltb, eq-eqb, ne_eqb, eqb-true}
-use mathlib.Core.Bool.{Bool, true, false, cond}
+use mathlib.Core.Bool.{Bool, true, false, cond, not}
 use lib.Dec.{eqb, ltb}
 use lib.ListN.{length, length-append}
 use Rattle.buffers.specs.Bytes.{over, over_at}
@@ -15,13 +16,19 @@ use Rattle.line.specs.Line.{plain}
 use Rattle.section.specs.Section.{count_of, body_of}
 use Rattle.pages.specs.Lines.{lines_from, fitting}
 use Rattle.body.specs.declared.View.{View}
-use Rattle.pages.specs.declared.Paged.{Paged}
-use Rattle.pages.specs.Page.{page_words, page_bytes, page_of}
+use Rattle.std.specs.Result.{ResultUnwrapsOrElse}
+use Rattle.std.proofs.Common.{Result, Ok, Err}
+use Rattle.refusal.specs.declared.Refusal.{Refusal}
+use Rattle.pages.specs.declared.extent.Page.{Page}
+use Rattle.pages.specs.contracts.extent.PageDefault.TheImpl as page_impl
+use Rattle.pages.specs.Page.{paging_of}
+use Rattle.pages.specs.Page.{Paged, page_words, page_bytes, page_of}
 use Rattle.pages.proofs.Proved.{theorems}
 use Rattle.pages.proofs.Runs.{one_fits, none_fits, run_most, lines_shift, fitting_shift}
 use Rattle.listing.specs.Swept.{view_in, word_count, head_line, line_in}
 use Rattle.listing.specs.Piece.{last_line, line_at, lines_in}
 use Rattle.listing.specs.Private.Steps.{Put, Ran}
+use Rattle.listing.proofs.Texts.{last_some}
 use Rattle.listing.proofs.Sums.{most_words, words_most}
 
 -- ── which lines there are ──
@@ -83,7 +90,8 @@ lines_most f n = go (ltb n (count_of f)) (eqb n (count_of f))
 
 -- ── what was written ──
 
-module _ (f : List ℕ) (n j : ℕ) (out : List ℕ) {out₁ : List ℕ} {size : ℕ} (put : Put (line_at f n j) out out₁ size) where
+module _ (f : List ℕ) (n j : ℕ) (out : List ℕ) {out₁ : List ℕ} {size : ℕ}
+    (put : Put (line_at f n j) out out₁ size) where
   abbrev L : List ℕ
   L = line_at f n j
 
@@ -138,7 +146,31 @@ module _ (f : List ℕ) (n j : ℕ) (out : List ℕ) {out₁ : List ℕ} {size :
               rw (add-one k, ← ep) (then_at 0 (length L) L P out (omega arith) fits p e ∙ at_start (L ++ P) out);
         }
 
+-- the last line of all, or nothing where it has no room
+pub ran_last : (f : List ℕ) (out : List ℕ) {out₁ : List ℕ} {size lines : ℕ} → Put (last_line f) out out₁ size →
+    lines ≡ bool_byte (not (eqb size 0)) → Ran f (count_of f) 0 out out₁ lines size
+ran_last f out {out₁} {size} {lines} last e = go (ℕ_discrete size 0)
+  where
+    put : Put (line_at f (count_of f) 0) out out₁ size
+    put = rw (last_is f 0) last
+
+    some : 0 < length (line_at f (count_of f) 0)
+    some = rw (last_is f 0) (last_some f)
+
+    go : Dec (size ≡ 0) → Ran f (count_of f) 0 out out₁ lines size
+    go (yes z) = rw (e, z) (ran_none f (count_of f) 0 out put (omega (arith, last_one f)) some z)
+    go (no s) = rw (e, ne_eqb size 0 s) (ran_one f (count_of f) 0 out put s (omega (arith, last_one f)))
+
 -- ── a page of words, from a place on ──
+
+-- one that is refused has no words
+abbrev pub page_or_none : Result Page Refusal → Page → Type 0
+page_or_none r p = ResultUnwrapsOrElse r (page_impl.is_default-value).it p
+
+pub page_is : (r : Result Page Refusal) (p : Page) → page_or_none r p →
+    (p.words ≡ (paging_of r).words) × (p.bytes ≡ (paging_of r).bytes)
+page_is (Ok q) p e = (ap (λ (d : Page). d.words) e, ap (λ (d : Page). d.bytes) e)
+page_is (Err r) p e = e
 
 module _ (f : List ℕ) (n : ℕ) (h : n < count_of f) (w place : ℕ) (out : List ℕ) {v : View} {b : List ℕ} {p : Paged}
     {out₁ : List ℕ} (ev : v ≡ view_in f n) (eb : b ≡ body_of f n)

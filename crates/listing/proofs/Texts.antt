@@ -1,7 +1,7 @@
 -- The lines without a word, as the code writes them.
 use Prim.Native.Nat.{ℕ, ◌+◌, ◌≤◌, ◌<◌}
-use mathlib.Core.Path.{◌≡◌, refl, sym, ap, subst}
-use mathlib.Core.List.{List, [], ◌∷◌, ◌++◌, append_assoc}
+use mathlib.Core.Path.{◌≡◌, refl}
+use mathlib.Core.List.{List, [], ◌∷◌, ◌++◌}
 use native.Mathlib.Omega.{arith}
 use mathlib.Core.Bool.{Bool, true, false, cond}
 use lib.Dec.{eqb}
@@ -13,7 +13,7 @@ use Rattle.text.specs.Text.{newline, letter, letters, text_of, numeral_of}
 use Rattle.section.specs.Section.{checked, count_of}
 use Rattle.listing.specs.Swept.{word_count, counted, head_line, total_line, refused_line}
 use Rattle.listing.specs.Piece.{last_line}
-use Rattle.listing.specs.Private.Steps.{Totals}
+use Rattle.listing.specs.Private.Steps.{refused_with, Totals}
 
 pub head_is : (f : List ℕ) (n w : ℕ) → w ≡ word_count f n →
     counted (115 ∷ 101 ∷ 99 ∷ 116 ∷ 105 ∷ 111 ∷ 110 ∷ 32 ∷ []) n (32 ∷ 119 ∷ 111 ∷ 114 ∷ 100 ∷ 115 ∷ 32 ∷ []) w ≡
@@ -27,11 +27,11 @@ pub total_is : (f : List ℕ) (w r : ℕ) → Totals f (count_of f) w r →
 unfolding total_line text_of letters letter
 total_is f w r t = rw (t.words_are, t.refused_are)
 
-pub refused_is : (f : List ℕ) (n : ℕ) → n ≡ checked f →
+pub refused_is : (m n : ℕ) → m ≡ n →
     (102 ∷ 105 ∷ 108 ∷ 101 ∷ 32 ∷ 114 ∷ 101 ∷ 102 ∷ 117 ∷ 115 ∷ 101 ∷ 100 ∷ 32 ∷ [])
-    ++ numeral_of 10 n ++ (newline ∷ []) ≡ refused_line f
-unfolding refused_line text_of letters letter
-refused_is f n e = rw e
+    ++ numeral_of 10 m ++ (newline ∷ []) ≡ refused_with n
+unfolding text_of letters letter
+refused_is m n e = rw e
 
 -- a newline after what was written
 pub line_ended : {m q : ℕ} {l d d₁ d₂ : List ℕ} → m + 1 ≤ length d → Wrote 0 m l d d₁ q →
@@ -40,16 +40,6 @@ line_ended {m} {q} {l} {d} {d₁} {d₂} h u e =
     let k : length d₁ ≡ length d = kept u (omega (arith, u.after, u.short)) in
     let v : Wrote q 1 (newline ∷ []) d₁ d₂ (q + 1) = wrote (omega arith) (omega (arith, u.short)) refl e in
     after u v (omega arith)
-
--- two texts with their numbers and a newline, one after the other
-module _ (a b : List ℕ) (x y : ℕ) where
-  pub counts_written : {m₁ m₂ p q : ℕ} {d d₁ d₂ d₃ : List ℕ} → m₁ + m₂ + 1 ≤ length d →
-      Wrote 0 m₁ (a ++ numeral_of 10 x) d d₁ p → Wrote p m₂ (b ++ numeral_of 10 y) d₁ d₂ q →
-      d₃ ≡ placed q (newline ∷ []) d₂ → Wrote 0 (m₁ + m₂ + 1) (counted a x b y) d d₃ (q + 1)
-  counts_written {m₁} {m₂} {p} {q} {d} {d₁} {d₂} {d₃} h u v w =
-      let e : a ++ numeral_of 10 x ++ (b ++ numeral_of 10 y) ++ (newline ∷ []) ≡ counted a x b y =
-      ap (λ (l : List ℕ). l ++ (newline ∷ [])) (sym (append_assoc (a ++ numeral_of 10 x) b (numeral_of 10 y))) in
-      subst (λ (l : List ℕ). Wrote 0 (m₁ + m₂ + 1) l d d₃ (q + 1)) e (line_ended h (after u v (omega arith)) w)
 
 -- none of them is empty
 

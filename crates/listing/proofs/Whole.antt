@@ -30,7 +30,8 @@ module _ (f : List ℕ) where
   section_bytes n h =
       rows_joined (line_at f n) (lines_in f n) 0
       ∙ rw (lines_are f n h, add-one (word_count f n), head_at f n h)
-      (ap (λ (l : List ℕ). head_line f n ++ l) (lines_shift (line_in f n) (line_at f n) (word_at f n h) (word_count f n) 0))
+      (ap (λ (l : List ℕ). head_line f n ++ l)
+      (lines_shift (line_in f n) (line_at f n) (word_at f n h) (word_count f n) 0))
 
   -- the last one
   last_bytes : joined (parts_from f 1 (count_of f)) ≡ last_line f
@@ -44,7 +45,8 @@ module _ (f : List ℕ) where
       joined_append (rows_from (line_at f n) (lines_in f n) 0) (parts_from f (suc k) (n + 1))
       ∙ rw (section_bytes n (omega arith), parts_bytes k (n + 1) (omega arith))
       (sym
-      (append_assoc (head_line f n ++ lines_from (line_in f n) (word_count f n) 0) (sections_from f k (n + 1)) (last_line f)))
+      (append_assoc (head_line f n ++ lines_from (line_in f n) (word_count f n) 0) (sections_from f k (n + 1))
+      (last_line f)))
 
   -- a bad file has no sections, and its number is its last line
   swept_is : swept_of f ≡ sections_from f (count_of f) 0 ++ last_line f
@@ -107,7 +109,8 @@ module _ (f : List ℕ) where
       (sum_from (lines_in f) n (m + 1) + j) []
       ∙ rw e (part_at k (m + 1) n j (omega arith) (rw e at g))
 
-  pub row_is : (n j : ℕ) → n ≤ count_of f → j < lines_in f n → get_or (all_rows f) (lines_before f n + j) [] ≡ line_at f n j
+  pub row_is : (n j : ℕ) → n ≤ count_of f → j < lines_in f n →
+      get_or (all_rows f) (lines_before f n + j) [] ≡ line_at f n j
   row_is n j h g =
       let z : 0 + n ≡ n = omega arith in
       rw (← before_is n h) (rw z at (part_at (count_of f + 1) 0 n j (omega arith) (rw z g)))

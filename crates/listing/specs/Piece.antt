@@ -1,10 +1,12 @@
 -- THE LISTING IN PIECES: as many whole lines as fit in a lent buffer, from a cursor on.
-use Rattle.std.specs.Prelude.{ℕ, zero, suc, ◌+◌, ◌-◌, cond, List, [], ◌++◌, eqb, ltb, length}
+use Rattle.std.specs.Prelude.{ℕ, zero, suc, ◌+◌, ◌-◌, cond, List, [], ◌++◌, eqb, ltb, length, Result, Ok, Err}
 use Rattle.refusal.specs.Numbers as refusal
+use Rattle.refusal.specs.declared.Refusal.{Refusal}
+use Rattle.refusal.specs.Refusals.{number_of}
 use Rattle.section.specs.Section.{checked, count_of}
 use Rattle.pages.specs.Lines.{lines_from, fitting}
 use Rattle.listing.specs.declared.Cursor.{Cursor}
-use Rattle.listing.specs.declared.Listed.{Listed}
+use Rattle.listing.specs.declared.extent.Piece.{Piece}
 use Rattle.listing.specs.Swept.{word_count, head_line, line_in, total_line, refused_line}
 
 -- ── the lines by number ──
@@ -47,6 +49,17 @@ next_of f room c =
 unfoldable pub piece_number : List ℕ → ℕ → Cursor → ℕ
 piece_number f room c =
     cond (ltb c.line (lines_in f c.section)) (cond (eqb (piece_lines f room c) 0) refusal.no_room 0) 0
+
+-- 0, how many bytes the piece has and where the listing goes on; or the number, no bytes and the same cursor
+pub record Listed : Type 0 where
+  pub number : ℕ
+  pub bytes : ℕ
+  pub next : Cursor
+
+-- an answer at cursor c in that number, bytes and cursor
+abbrev pub listing_of : Cursor → Result Piece Refusal → Listed
+listing_of c (Ok p) = record { number = 0; bytes = p.bytes; next = p.next }
+listing_of c (Err r) = record { number = number_of r; bytes = 0; next = c }
 
 abbrev pub piece_of : List ℕ → ℕ → Cursor → Listed
 piece_of f room c =

@@ -1,5 +1,6 @@
 -- What specs/Patching.antt states, proved: the encoder's word is that of the row which is picked (crate `inverse`), and the walk has tested
 -- which row that is and which fields it has.
+use Rattle.inverse.specs.Encoded.{Encoded, Encodes}
 use Prim.Native.Nat.{ℕ, ◌<◌}
 use mathlib.Core.Path.{◌≡◌, refl, sym, ◌∙◌, ap, subst}
 use mathlib.Core.Bool.{Bool, true, false}
@@ -10,7 +11,6 @@ use Rattle.word.specs.Word.{Fields, fields_of, word, words}
 use Rattle.word.specs.Numbers.{imm}
 use Rattle.word.proofs.Fields.{fields_fit, word_fields}
 use Rattle.reading.specs.declared.Insn.{Insn}
-use Rattle.reading.specs.declared.Encoded.{Encoded}
 use Rattle.reading.specs.Kind.{from}
 use Rattle.classes.specs.Row.{Row}
 use Rattle.classes.specs.Meaning.{six, takes, find, outs}
@@ -19,7 +19,6 @@ use Rattle.laws.specs.Lists.{elem}
 use Rattle.classes.specs.Refusals.{holds, meets, refusals}
 use Rattle.classes.specs.Decoded.{decoded_of}
 use Rattle.classes.proofs.Find.{In, find_in}
-use Rattle.inverse.specs.Encoded.{Encodes}
 use Rattle.inverse.specs.Private.Candidate.{after_nops, pick}
 use Rattle.inverse.proofs.Rows.{lift}
 use Rattle.inverse.proofs.Twins.{value_in, own_suits, no_nops}

@@ -1,14 +1,13 @@
 -- DEMAND 2 AGAINST THE MANUALS: the source and the manuals agree on a word, at any address and under either width flag,
 -- exactly if no exception covers it. The proofs are in proofs/Proved.antt.
 use Rattle.std.specs.Prelude.{ℕ, ◌+◌, ◌%◌, ◌^◌, ◌≤◌, ◌≡◌, Bool, true, false, cond, ◌||◌, List, [], ◌∷◌, map, ◌⊎◌, T}
+use Rattle.std.specs.Prelude.{None, Some, Option as Target}
 use Rattle.std.specs.Prelude.{leb, take}
 use Rattle.std.proofs.Math.Option.{Option, none, some}
 use Rattle.word.specs.Word.{Fields, fields_of}
 use Rattle.reading.specs.declared.Op.{Op}
 use Rattle.reading.specs.declared.Op.TheVariants.{Reg, FReg, Imm, Mem, Addr, Cop0}
 use Rattle.reading.specs.declared.Operand.{Operand}
-use Rattle.reading.specs.declared.Target.{Target}
-use Rattle.reading.specs.declared.Target.TheVariants as target
 use Rattle.reading.specs.declared.Insn.{Insn}
 use Rattle.reading.specs.declared.Decoded.{Decoded}
 use Rattle.reading.specs.Names.{name_of}
@@ -64,8 +63,8 @@ shows (Addr a) = address a
 shows (Cop0 n) = CP0 n
 
 -- the target is the operand that is an address
-unfoldable pub target_among : List Meant → Target
-target_among [] = target.None
+unfoldable pub target_among : List Meant → Target ℕ
+target_among [] = None
 target_among (GPR n ∷ ms) = target_among ms
 target_among (FPR n ∷ ms) = target_among ms
 target_among (FCR n ∷ ms) = target_among ms
@@ -75,7 +74,7 @@ target_among (CP2 n ∷ ms) = target_among ms
 target_among (number z ∷ ms) = target_among ms
 target_among (memory z n ∷ ms) = target_among ms
 target_among (indexed m n ∷ ms) = target_among ms
-target_among (address a ∷ ms) = target.At a
+target_among (address a ∷ ms) = Some a
 
 -- ── agreement ──
 
@@ -109,9 +108,9 @@ held wide (memory z n) = memory z n
 held wide (indexed m n) = indexed m n
 held wide (address a) = address (a % 2 ^ pc_bits wide)
 
-abbrev pub held_target : Bool → Target → Target
-held_target wide target.None = target.None
-held_target wide (target.At a) = target.At (a % 2 ^ pc_bits wide)
+abbrev pub held_target : Bool → Target ℕ → Target ℕ
+held_target wide None = None
+held_target wide (Some a) = Some (a % 2 ^ pc_bits wide)
 
 -- the PC does not hold all of the address
 abbrev pub past : Bool → Op → Bool

@@ -1,15 +1,14 @@
 -- WHAT A PATCH RESTORES: a word that no exception covers (every word on which manual and source agree is one), decoded
 -- and encoded again, is the word itself, save for the words of seven pages, which come back with other fields. The
 -- proofs are in proofs/Patched.antt.
+use Rattle.inverse.specs.Encoded.{Encoded, Encodes}
 use Rattle.std.specs.Prelude.{ℕ, ◌<◌, ◌≡◌, Bool, true, false, cond, ◌&&◌, List, [], ◌∷◌, ltb}
 use Prim.Native.String.{String}
 use Rattle.std.proofs.Math.Option.{Option, none, some}
 use lib.Text.{eqt}
 use Rattle.word.specs.Word.{Field, same_field, op, rt, funct, Fields, fields_of, word, words}
 use Rattle.word.specs.Numbers.{imm}
-use Rattle.reading.specs.declared.Encoded.{Encoded}
 use Rattle.classes.specs.Decoded.{decoded_of}
-use Rattle.inverse.specs.Encoded.{Encodes}
 use Rattle.manual.specs.Page.{Line}
 use Rattle.manual.specs.Exceptions.{Example, narrow, wide}
 use Rattle.manual.specs.Agreement.{line_for, Agree, covered, Each}

@@ -29,9 +29,15 @@ pub record FoundAt (ss : List String) (k : ℕ) (l : List ℕ) : Type 0 where
 here : (s : String) (ss : List String) (k : ℕ) (l : List ℕ) → same (padded 16 s) l ≡ true → FoundAt (s ∷ ss) k l
 unfolding kind_in
 here s ss k l e =
-    record { at = 0; inside = omega arith; kind = rw e (omega arith); bytes = sym (same_eq (padded 16 s) l (subst T (sym e) tt)) }
+    record {
+      at = 0;
+      inside = omega arith;
+      kind = rw e (omega arith);
+      bytes = sym (same_eq (padded 16 s) l (subst T (sym e) tt));
+    }
 
-later : (s : String) (ss : List String) (k : ℕ) (l : List ℕ) → same (padded 16 s) l ≡ false → FoundAt ss (suc k) l → FoundAt (s ∷ ss) k l
+later : (s : String) (ss : List String) (k : ℕ) (l : List ℕ) → same (padded 16 s) l ≡ false →
+    FoundAt ss (suc k) l → FoundAt (s ∷ ss) k l
 unfolding kind_in
 later s ss k l e f =
     record { at = suc f.at; inside = omega arith; kind = rw e (f.kind ∙ omega arith); bytes = f.bytes }
@@ -42,13 +48,15 @@ unfolding kind_in
 finds [] k l = inl refl
 finds (s ∷ ss) k l = go (same (padded 16 s) l) refl (finds ss (suc k) l)
   where
-    go : (b : Bool) → same (padded 16 s) l ≡ b → (kind_in ss (suc k) l ≡ no_kind) ⊎ FoundAt ss (suc k) l → (kind_in (s ∷ ss) k l ≡ no_kind) ⊎ FoundAt (s ∷ ss) k l
+    go : (b : Bool) → same (padded 16 s) l ≡ b → (kind_in ss (suc k) l ≡ no_kind) ⊎ FoundAt ss (suc k) l →
+        (kind_in (s ∷ ss) k l ≡ no_kind) ⊎ FoundAt (s ∷ ss) k l
     go true e rec = inr (here s ss k l e)
     go false e (inl n) = inl (rw e n)
     go false e (inr f) = inr (later s ss k l e f)
 
 -- a name of the list is found
-reaches : (ss : List String) (k : ℕ) (l : List ℕ) (j : ℕ) → j < length ss → l ≡ padded 16 (get_or ss j "") → FoundAt ss k l
+reaches : (ss : List String) (k : ℕ) (l : List ℕ) (j : ℕ) → j < length ss → l ≡ padded 16 (get_or ss j "") →
+    FoundAt ss k l
 unfolding kind_in
 reaches [] k l j h e = absurd (omega arith)
 reaches (s ∷ ss) k l zero h e = here s ss k l (rw e (same_self (padded 16 s)))
@@ -69,13 +77,17 @@ elem_at (y ∷ ys) (suc i) h = or_r (eqb (get_or ys i 0) y) (elem (get_or ys i 0
 absent_at : (x : ℕ) (xs : List ℕ) (i : ℕ) → T (not (elem x xs)) → i < length xs → x ≡ get_or xs i 0 → ⊥
 absent_at x xs i t h e = T_not (elem x xs) t (subst (λ (y : ℕ). T (elem y xs)) (sym e) (elem_at xs i h))
 
-apart : (xs : List ℕ) (i j : ℕ) → T (distinct xs) → i < length xs → j < length xs → get_or xs i 0 ≡ get_or xs j 0 → i ≡ j
+apart : (xs : List ℕ) (i j : ℕ) → T (distinct xs) → i < length xs → j < length xs →
+    get_or xs i 0 ≡ get_or xs j 0 → i ≡ j
 unfolding distinct
 apart [] i j t h k e = absurd (omega arith)
 apart (x ∷ xs) zero zero t h k e = refl
-apart (x ∷ xs) zero (suc j) t h k e = absurd (absent_at x xs j (and_l (not (elem x xs)) (distinct xs) t) (omega arith) e)
-apart (x ∷ xs) (suc i) zero t h k e = absurd (absent_at x xs i (and_l (not (elem x xs)) (distinct xs) t) (omega arith) (sym e))
-apart (x ∷ xs) (suc i) (suc j) t h k e = ap suc (apart xs i j (and_r (not (elem x xs)) (distinct xs) t) (omega arith) (omega arith) e)
+apart (x ∷ xs) zero (suc j) t h k e =
+    absurd (absent_at x xs j (and_l (not (elem x xs)) (distinct xs) t) (omega arith) e)
+apart (x ∷ xs) (suc i) zero t h k e =
+    absurd (absent_at x xs i (and_l (not (elem x xs)) (distinct xs) t) (omega arith) (sym e))
+apart (x ∷ xs) (suc i) (suc j) t h k e =
+    ap suc (apart xs i j (and_r (not (elem x xs)) (distinct xs) t) (omega arith) (omega arith) e)
 
 -- a name as one number
 abbrev number : String → ℕ
@@ -119,7 +131,8 @@ kind_or_none l = go (finds mnemonics 0 l)
   where
     go : (kind_in mnemonics 0 l ≡ no_kind) ⊎ FoundAt mnemonics 0 l → (kind_of l ≡ no_kind) ⊎ HasKind l
     go (inl n) = inl n
-    go (inr f) = inr (record { kind = f.at; small = rw names_many at f.inside; is = f.kind ∙ omega arith; bytes = f.bytes })
+    go (inr f) =
+        inr (record { kind = f.at; small = rw names_many at f.inside; is = f.kind ∙ omega arith; bytes = f.bytes })
 
 pub back : (k : ℕ) → k < many → kind_of (name_bytes k) ≡ k
 unfolding kind_of name_bytes name_of
@@ -136,8 +149,3 @@ named l k h e = go (kind_or_none l)
     go : (kind_of l ≡ no_kind) ⊎ HasKind l → l ≡ name_bytes k
     go (inl n) = absurd (omega arith)
     go (inr f) = f.bytes ∙ ap name_bytes (sym f.is ∙ e)
-
--- zeros are not a name
-pub no_kind_lem : kind_of (padded 16 "") ≡ no_kind
-unfolding kind_of kind_in same mnemonics padded letters letter
-no_kind_lem = refl

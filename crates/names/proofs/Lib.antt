@@ -1,4 +1,3 @@
-pub mod Halves
 pub mod Found
 pub mod Tables
 pub mod Proved

@@ -27,7 +27,9 @@ unfolding zeros padded letters letter
 nine k = go (ltb k many) refl
   where
     go : (b : Bool) → ltb k many ≡ b → drop 9 (name_bytes k) ≡ zeros
-    go true e = same_eq (drop 9 (name_bytes k)) zeros (below (λ k. same (drop 9 (name_bytes k)) zeros) many all_short k (ltb-true k many e))
+    go true e =
+        let short = below (λ k. same (drop 9 (name_bytes k)) zeros) many all_short k (ltb-true k many e) in
+        same_eq (drop 9 (name_bytes k)) zeros short
     go false e = ap (drop 9) (no_name k (ltb-false k many e))
 
 pub theorems : Theorems

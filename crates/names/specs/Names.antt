@@ -1,5 +1,5 @@
 -- The names of registers and mnemonics as bytes, and which kind has a name.
-use Rattle.std.specs.Prelude.{ℕ, suc, cond, List, [], ◌∷◌, get_or}
+use Rattle.std.specs.Prelude.{ℕ, suc, cond, List, [], ◌∷◌, get_or, eqb, Option, Some, None}
 use Prim.Native.String.{String}
 use Rattle.reading.specs.Names.{mnemonics, name_of}
 use Rattle.text.specs.Text.{padded, same}
@@ -35,3 +35,7 @@ kind_in (s ∷ ss) k l = cond (same (padded 16 s) l) k (kind_in ss (suc k) l)
 -- the kind with this name
 unfoldable pub kind_of : List ℕ → ℕ
 kind_of l = kind_in mnemonics 0 l
+
+-- the same as a value or none
+unfoldable pub kind_named : List ℕ → Option ℕ
+kind_named l = cond (eqb (kind_of l) no_kind) None (Some (kind_of l))

@@ -2,40 +2,47 @@
 // Depends on `reading` for the kinds, on `text` for what a padded text is, and on `buffers`.
 #![tactic(auto)]
 
-ghost use Rattle.std.specs.Prelude.{◌≡◌, true, ◌↔◌, ◌+◌, ◌*◌, ◌≤◌, ◌<◌};
-ghost use Rattle.names.specs.Names.{register_bytes, name_bytes, kind_of};
+ghost use Rattle.std.specs.Prelude.{◌≡◌, ◌+◌, ◌*◌, ◌≤◌, ◌<◌};
+ghost use Rattle.names.specs.Names.{register_bytes, name_bytes, kind_named};
 ghost use Rattle.names.specs.Private.Table.{IsRow, IsEntry, Candidate};
 
-// The bytes of a register's name, and of a mnemonic's: the name, then zeros.
-const REGISTER_SIZE: usize = 4;
+// ── tables ──
 
-const NAME_SIZE: usize = 16;
+// The tables are constant arrays of bytes. They go to these two by value: so a table is built once, and only where it
+// is needed; by reference, the compiler builds all that a function names before it chooses one.
+
+// One row of a table whose rows have SIZE bytes: a name, then zeros.
+fn row_in<const SIZE: usize, const ALL: usize>(table: [u8; ALL], row: usize) -> [u8; SIZE]
+    requires { SIZE * row + SIZE ≤ ALL }
+    ensures { IsRow SIZE table.entry row result }
+{
+    *table.as_slice()[SIZE * row..].first_chunk().unwrap()
+}
+
+// One byte of a table.
+fn entry_in<const ALL: usize>(table: [u8; ALL], place: usize) -> u8
+    requires { place < ALL }
+    ensures { IsEntry table.entry place result }
+{
+    table[place]
+}
 
 // ── registers ──
 
 const REGISTERS: u8 = 32;
 
-// REGISTER_SIZE bytes for each register, by its number.
+// Four bytes for each register, by its number.
 const REGS: [u8; 128] = *b"zeroat\0\0v0\0\0v1\0\0a0\0\0a1\0\0a2\0\0a3\0\0\
     t0\0\0t1\0\0t2\0\0t3\0\0t4\0\0t5\0\0t6\0\0t7\0\0\
     s0\0\0s1\0\0s2\0\0s3\0\0s4\0\0s5\0\0s6\0\0s7\0\0\
     t8\0\0t9\0\0k0\0\0k1\0\0gp\0\0sp\0\0fp\0\0ra\0\0";
 
-// The name in one row of REGS, which goes here by value: so it is built once and not for each byte.
-fn register_in(regs: [u8; 128], row: usize) -> [u8; 4]
-    requires { row < 32 }
-    ensures { IsRow 4 regs row result }
-{
-    let at = REGISTER_SIZE * row;
-    [regs[at], regs[at + 1], regs[at + 2], regs[at + 3]]
-}
-
-// A register's name; zeros alone for a number that no register has.
+// A register's name; zeros alone for a number that no register has, as `register_bytes` has them, and no `None`.
 pub fn register(n: u8) -> [u8; 4]
     ensures { result ≡ register_bytes n }
 {
     if n < REGISTERS {
-        register_in(REGS, n as usize)
+        row_in(REGS, n as usize)
     } else {
         [0u8; 4]
     }
@@ -44,11 +51,10 @@ pub fn register(n: u8) -> [u8; 4]
 // ── from a kind to its name ──
 
 // How many names an array has. A constant array is built anew wherever it is used, so that one array of all the names
-// would cost more than decoding a word: hence few names in an array, and an arm of `name_of` for each array. They are
-// passed to `name_in` by value: by reference, the compiler builds them all before it chooses.
+// would cost more than decoding a word: hence few names in an array, and an arm of `name_of` for each array.
 const ROWS: u8 = 4;
 
-// NAME_SIZE bytes for each mnemonic, by their kinds: NAMES_3 has the kinds 3 * ROWS to 3 * ROWS + 3.
+// Sixteen bytes for each mnemonic, by their kinds: NAMES_3 has the kinds 3 * ROWS to 3 * ROWS + 3.
 const NAMES_0: [u8; 64] = *b"nop\0\0\0\0\0\0\0\0\0\0\0\0\0ssnop\0\0\0\0\0\0\0\0\0\0\0\
     sll\0\0\0\0\0\0\0\0\0\0\0\0\0rotr\0\0\0\0\0\0\0\0\0\0\0\0";
 
@@ -208,32 +214,6 @@ const NAMES_51: [u8; 64] = *b"lld\0\0\0\0\0\0\0\0\0\0\0\0\0ldc1\0\0\0\0\0\0\0\0\
 const NAMES_52: [u8; 64] = *b"swc1\0\0\0\0\0\0\0\0\0\0\0\0scd\0\0\0\0\0\0\0\0\0\0\0\0\0\
     sdc1\0\0\0\0\0\0\0\0\0\0\0\0sd\0\0\0\0\0\0\0\0\0\0\0\0\0\0";
 
-// The name in one row of an array.
-fn name_in(names: [u8; 64], row: usize) -> [u8; 16]
-    requires { row < 4 }
-    ensures { IsRow 16 names row result }
-{
-    let at = NAME_SIZE * row;
-    [
-        names[at],
-        names[at + 1],
-        names[at + 2],
-        names[at + 3],
-        names[at + 4],
-        names[at + 5],
-        names[at + 6],
-        names[at + 7],
-        names[at + 8],
-        names[at + 9],
-        names[at + 10],
-        names[at + 11],
-        names[at + 12],
-        names[at + 13],
-        names[at + 14],
-        names[at + 15],
-    ]
-}
-
 // A mnemonic's name; zeros alone for a number that no kind has. Split so that no function exceeds 40 lines: the other
 // arms are those of `name_in_upper_half`.
 pub fn name_of(kind: u8) -> [u8; 16]
@@ -242,33 +222,33 @@ pub fn name_of(kind: u8) -> [u8; 16]
     let row = (kind % ROWS) as usize;
     let array = kind / ROWS;
     match array {
-        0 => name_in(NAMES_0, row),
-        1 => name_in(NAMES_1, row),
-        2 => name_in(NAMES_2, row),
-        3 => name_in(NAMES_3, row),
-        4 => name_in(NAMES_4, row),
-        5 => name_in(NAMES_5, row),
-        6 => name_in(NAMES_6, row),
-        7 => name_in(NAMES_7, row),
-        8 => name_in(NAMES_8, row),
-        9 => name_in(NAMES_9, row),
-        10 => name_in(NAMES_10, row),
-        11 => name_in(NAMES_11, row),
-        12 => name_in(NAMES_12, row),
-        13 => name_in(NAMES_13, row),
-        14 => name_in(NAMES_14, row),
-        15 => name_in(NAMES_15, row),
-        16 => name_in(NAMES_16, row),
-        17 => name_in(NAMES_17, row),
-        18 => name_in(NAMES_18, row),
-        19 => name_in(NAMES_19, row),
-        20 => name_in(NAMES_20, row),
-        21 => name_in(NAMES_21, row),
-        22 => name_in(NAMES_22, row),
-        23 => name_in(NAMES_23, row),
-        24 => name_in(NAMES_24, row),
-        25 => name_in(NAMES_25, row),
-        26 => name_in(NAMES_26, row),
+        0 => row_in(NAMES_0, row),
+        1 => row_in(NAMES_1, row),
+        2 => row_in(NAMES_2, row),
+        3 => row_in(NAMES_3, row),
+        4 => row_in(NAMES_4, row),
+        5 => row_in(NAMES_5, row),
+        6 => row_in(NAMES_6, row),
+        7 => row_in(NAMES_7, row),
+        8 => row_in(NAMES_8, row),
+        9 => row_in(NAMES_9, row),
+        10 => row_in(NAMES_10, row),
+        11 => row_in(NAMES_11, row),
+        12 => row_in(NAMES_12, row),
+        13 => row_in(NAMES_13, row),
+        14 => row_in(NAMES_14, row),
+        15 => row_in(NAMES_15, row),
+        16 => row_in(NAMES_16, row),
+        17 => row_in(NAMES_17, row),
+        18 => row_in(NAMES_18, row),
+        19 => row_in(NAMES_19, row),
+        20 => row_in(NAMES_20, row),
+        21 => row_in(NAMES_21, row),
+        22 => row_in(NAMES_22, row),
+        23 => row_in(NAMES_23, row),
+        24 => row_in(NAMES_24, row),
+        25 => row_in(NAMES_25, row),
+        26 => row_in(NAMES_26, row),
         _ => name_in_upper_half(array, row),
     }
 }
@@ -279,41 +259,42 @@ fn name_in_upper_half(array: u8, row: usize) -> [u8; 16]
     ensures { result ≡ name_bytes (4 * array + row) }
 {
     match array {
-        27 => name_in(NAMES_27, row),
-        28 => name_in(NAMES_28, row),
-        29 => name_in(NAMES_29, row),
-        30 => name_in(NAMES_30, row),
-        31 => name_in(NAMES_31, row),
-        32 => name_in(NAMES_32, row),
-        33 => name_in(NAMES_33, row),
-        34 => name_in(NAMES_34, row),
-        35 => name_in(NAMES_35, row),
-        36 => name_in(NAMES_36, row),
-        37 => name_in(NAMES_37, row),
-        38 => name_in(NAMES_38, row),
-        39 => name_in(NAMES_39, row),
-        40 => name_in(NAMES_40, row),
-        41 => name_in(NAMES_41, row),
-        42 => name_in(NAMES_42, row),
-        43 => name_in(NAMES_43, row),
-        44 => name_in(NAMES_44, row),
-        45 => name_in(NAMES_45, row),
-        46 => name_in(NAMES_46, row),
-        47 => name_in(NAMES_47, row),
-        48 => name_in(NAMES_48, row),
-        49 => name_in(NAMES_49, row),
-        50 => name_in(NAMES_50, row),
-        51 => name_in(NAMES_51, row),
-        52 => name_in(NAMES_52, row),
+        27 => row_in(NAMES_27, row),
+        28 => row_in(NAMES_28, row),
+        29 => row_in(NAMES_29, row),
+        30 => row_in(NAMES_30, row),
+        31 => row_in(NAMES_31, row),
+        32 => row_in(NAMES_32, row),
+        33 => row_in(NAMES_33, row),
+        34 => row_in(NAMES_34, row),
+        35 => row_in(NAMES_35, row),
+        36 => row_in(NAMES_36, row),
+        37 => row_in(NAMES_37, row),
+        38 => row_in(NAMES_38, row),
+        39 => row_in(NAMES_39, row),
+        40 => row_in(NAMES_40, row),
+        41 => row_in(NAMES_41, row),
+        42 => row_in(NAMES_42, row),
+        43 => row_in(NAMES_43, row),
+        44 => row_in(NAMES_44, row),
+        45 => row_in(NAMES_45, row),
+        46 => row_in(NAMES_46, row),
+        47 => row_in(NAMES_47, row),
+        48 => row_in(NAMES_48, row),
+        49 => row_in(NAMES_49, row),
+        50 => row_in(NAMES_50, row),
+        51 => row_in(NAMES_51, row),
+        52 => row_in(NAMES_52, row),
         _ => [0u8; 16],
     }
 }
 
 // ── from a name to its kind ──
 
-// What `kind_of` answers for a name that no mnemonic has: no kind has this number.
-pub const NO_KIND: u8 = 255;
+// Says in KINDS that no name has the place: a number that no kind has, since KINDS is a constant array of bytes.
+const NO_KIND: u8 = 255;
 
+// This stands for a map from names to kinds, which would need a heap: fixed memory is a rule of this project.
 // A name's place in KINDS is computed from its first eight letters as a number, its ninth letter, and the entry of
 // SHIFTS at that number modulo SHIFTS_DIVISOR. No two names have the same place: the shifts and both divisors were
 // found by trying.
@@ -346,48 +327,22 @@ const KINDS: [u8; 256] = *b"\xff\x81\xa7\x5c\x16\x10\x97\x1a\x5e\xb1\xd3\x46\xab
     \x0d\xff\xc8\x9a\xd0\x6e\x6c\x68\xba\x60\x87\xc6\x7d\x48\xac\xc2\
     \x19\xb4\x93\x88\x41\xcb\x39\x14\xca\x73\x20\x4c\xb8\x7f\x4a\xb6";
 
-// One entry of SHIFTS, and one of KINDS.
-fn shift_in(shifts: [u8; 63], row: usize) -> u8
-    requires { row < 63 }
-    ensures { IsEntry shifts row result }
-{
-    shifts[row]
-}
-
-fn kind_in(kinds: [u8; 256], place: usize) -> u8
-    requires { place < 256 }
-    ensures { IsEntry kinds place result }
-{
-    kinds[place]
-}
-
-// The only kind that may have this name, or NO_KIND.
-fn candidate(name: [u8; 16]) -> u8
+// The only kind that may have this name.
+fn candidate(name: [u8; 16]) -> Option<u8>
     ensures { Candidate name result }
 {
     let letters = buffers::get8(&name, 0);
     let ninth = name[8] as u64;
     let row = (letters % SHIFTS_DIVISOR) as usize;
-    let shift = shift_in(SHIFTS, row) as u64;
+    let shift = entry_in(SHIFTS, row) as u64;
     let place = ((letters % PLACE_DIVISOR + ninth + shift) % PLACES) as usize;
-    kind_in(KINDS, place)
-}
-
-// Are two names the same? Eight bytes at a time.
-fn same_name(a: [u8; 16], b: [u8; 16]) -> bool
-    ensures { (result ≡ true) ↔ (a ≡ b) }
-{
-    buffers::get8(&a, 0) == buffers::get8(&b, 0) && buffers::get8(&a, 8) == buffers::get8(&b, 8)
+    let kind = entry_in(KINDS, place);
+    if kind == NO_KIND { None } else { Some(kind) }
 }
 
 // The kind with this name: the candidate, if it has the name.
-pub fn kind_of(name: [u8; 16]) -> u8
-    ensures { result ≡ kind_of name }
+pub fn kind_of(name: [u8; 16]) -> Option<u8>
+    ensures { result ≡ kind_named name }
 {
-    let kind = candidate(name);
-    if same_name(name, name_of(kind)) {
-        kind
-    } else {
-        NO_KIND
-    }
+    candidate(name).filter(|kind| name == name_of(*kind))
 }

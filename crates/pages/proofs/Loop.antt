@@ -37,7 +37,6 @@ module _ (line : ℕ → List ℕ) (n place total : ℕ) (out₀ : List ℕ) whe
     pub words : k - n ≡ count
     pub bytes : at - place ≡ length text
     pub left : out ≡ over_at place text out₀
-    pub size : length out ≡ length out₀
 
   pub start : n ≤ total → place ≤ length out₀ → Turn out₀ n place
   start h g =
@@ -63,7 +62,6 @@ module _ (line : ℕ → List ℕ) (n place total : ℕ) (out₀ : List ℕ) whe
           words = omega (arith, w, t.words);
           bytes = rw (← d) (omega (arith, t.after));
           left = t.bytes ∙ ap (λ (l : List ℕ). over_at place l out₀) d;
-          size = t.size;
         }
 
     pub all : total ≤ k → Ends out k at

@@ -4,16 +4,20 @@ use mathlib.Core.Path.{◌≡◌, refl, sym, ap, ◌∙◌}
 use mathlib.Core.Bool.{Bool, true, false, cond}
 use mathlib.Core.List.{List, [], ◌∷◌, ◌++◌, append_assoc}
 use native.Mathlib.Omega.{arith}
-use borrow.Author.Tests.{eq-eqb, ne_eqb}
+use borrow.Author.Tests.{ne_eqb}
 use lib.ListN.{length, length-append}
 use borrow.Rule.Slice.PartMut.{put_mid, mid_of}
+use Rattle.refusal.specs.declared.Refusal.{Refusal}
+use Rattle.refusal.specs.Refusals.{number_of}
+use Rattle.refusal.proofs.One.{number_above_0}
 use Rattle.reading.specs.declared.Decoded.{Decoded}
+use Rattle.reading.specs.Reading.{refused_of}
 use Rattle.buffers.specs.Bytes.{over, placed}
 use Rattle.buffers.proofs.Laws.{first_at, next_at, then_at, at_start, lent_over}
 use Rattle.text.specs.Text.{letter, letters, text_of, numeral_of, hex_of, newline, without, OneLine}
 use Rattle.buffers.specs.Writes.{Wrote}
 use Rattle.text.proofs.Texts.{space}
-use Rattle.text.proofs.Lengths.{hex_long}
+use Rattle.text.proofs.Lengths.{hex_long, numeral_most}
 use Rattle.text.proofs.Rows.{without_append, numeral_without, hex_without}
 use Rattle.line.specs.Line.{Spelling, line_of, longest, Unbroken, printed}
 use Rattle.line.proofs.Answers.{fits}
@@ -25,21 +29,13 @@ use Rattle.pages.specs.Private.Steps.{Answers, columns_of}
 
 -- ── texts ──
 
-pub says_refused : 114 ∷ 101 ∷ 102 ∷ 117 ∷ 115 ∷ 101 ∷ 100 ∷ 32 ∷ [] ≡ text_of "refused "
+says_refused : 114 ∷ 101 ∷ 102 ∷ 117 ∷ 115 ∷ 101 ∷ 100 ∷ 32 ∷ [] ≡ text_of "refused "
 unfolding text_of letters letter
 says_refused = refl
 
 -- ── the text of an answer ──
 
 module _ (σ : Spelling) (d : Decoded) where
-  pub text_refused : (d.number ≡ 0 → ⊥) → answer_text σ d ≡ text_of "refused " ++ numeral_of 10 d.number
-  unfolding answer_text
-  text_refused z = rw (ne_eqb d.number 0 z)
-
-  pub text_accepted : d.number ≡ 0 → answer_text σ d ≡ line_of σ d.insn
-  unfolding answer_text
-  text_accepted z = rw (eq-eqb d.number 0 z)
-
   text_without : Unbroken σ → without newline (answer_text σ d) ≡ true
   unfolding answer_text without text_of letters letter
   text_without s = go (is_refused d)
@@ -52,6 +48,23 @@ module _ (σ : Spelling) (d : Decoded) where
   -- a line that has room is printed
   pub printed_whole : (room : ℕ) → Answers σ d → longest ≤ room → printed σ d.insn room ≡ line_of σ d.insn
   printed_whole room a h = (fits σ d.insn room a.lined (omega (arith, a.short))).bytes
+
+-- `refused` and the number, written one after the other
+module _ (σ : Spelling) (r : Refusal) {n size : ℕ} (d : List ℕ) {d₁ d₂ : List ℕ} where
+  pub refused_written : longest ≤ length d → n ≡ number_of r →
+      d₁ ≡ placed 0 (114 ∷ 101 ∷ 102 ∷ 117 ∷ 115 ∷ 101 ∷ 100 ∷ 32 ∷ []) d →
+      size ≡ length (numeral_of 10 n) → d₂ ≡ placed 8 (numeral_of 10 n) d₁ →
+      let text = answer_text σ (refused_of (number_of r)) in
+      (8 + size ≡ length text) × (d₂ ≡ over text d)
+  unfolding answer_text
+  refused_written h en e₁ es e₂ =
+      let N : List ℕ = numeral_of 10 n in
+      let most : length N ≤ 20 = numeral_most 10 n in
+      let l : length (text_of "refused ") ≡ 8 = ap length (sym says_refused) in
+      let p₁ = first_at 0 (text_of "refused ") d (omega arith) says_refused e₁ in
+      let p₂ = next_at 0 8 (text_of "refused ") N d (omega arith) (omega arith) p₁ refl e₂ in
+      rw (ne_eqb (number_of r) 0 (λ z. omega (arith, z, number_above_0 r)), ← en)
+      (simp length-append (omega (arith, l, es)), p₂ ∙ at_start (text_of "refused " ++ N) d)
 
 -- ── the columns ──
 

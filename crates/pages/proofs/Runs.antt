@@ -57,7 +57,8 @@ module _ (line : ℕ → List ℕ) where
   run_fits zero n room = omega arith
   run_fits (suc k) n room = go (dec_le (length (line n)) room) (run_fits k (n + 1) (room - length (line n)))
     where
-      go : Dec (length (line n) ≤ room) → length (run line k (n + 1) (room - length (line n))) ≤ room - length (line n) →
+      go : Dec (length (line n) ≤ room) →
+          length (run line k (n + 1) (room - length (line n))) ≤ room - length (line n) →
           length (run line (suc k) n room) ≤ room
       go (yes h) r = rw (run_more line k n room h) (simp length-append (omega arith))
       go (no h) r =

@@ -12,7 +12,6 @@ use Rattle.body.specs.declared.View.{View}
 use Rattle.body.specs.Body.{words_in}
 use Rattle.pages.specs.Lines.{lines_from, fitting}
 use Rattle.pages.specs.Page.{word_line, longest_line, page_words, page_bytes, page_number, page_of}
-use Rattle.pages.specs.Private.Steps.{nothing}
 use Rattle.pages.proofs.Rows.{lines_add}
 use Rattle.pages.proofs.Runs.{none_fits, no_lines, run_fits, run_most, run_longest, run_all}
 use Rattle.pages.proofs.Pieces.{columns_long, word_line_is, line_some}
@@ -51,13 +50,14 @@ module _ (σ : Spelling) (v : View) (body : List ℕ) (n size place : ℕ) where
 
   -- what is answered where there are no words
   answers_nothing : {number : ℕ} → page_number σ v body n size place ≡ number → page_words σ v body n size place ≡ 0 →
-      nothing number ≡ page_of σ v body n size place
+      record { number = number; words = 0; bytes = 0 } ≡ page_of σ v body n size place
   answers_nothing e z = rw (e, z, no_bytes z)
 
-  pub answers_15 : words_in body ≤ n → nothing 15 ≡ page_of σ v body n size place
+  pub answers_15 : words_in body ≤ n → record { number = 15; words = 0; bytes = 0 } ≡ page_of σ v body n size place
   answers_15 h = answers_nothing (number_15 h) (no_index h)
 
-  pub answers_11 : n < words_in body → page_words σ v body n size place ≡ 0 → nothing 11 ≡ page_of σ v body n size place
+  pub answers_11 : n < words_in body → page_words σ v body n size place ≡ 0 →
+      record { number = 11; words = 0; bytes = 0 } ≡ page_of σ v body n size place
   answers_11 h z = answers_nothing (number_11 h z) z
 
   -- ── how far a page goes ──

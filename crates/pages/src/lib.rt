@@ -1,5 +1,5 @@
-// The pages of a body: the lines that reviewers sign. Depends on `body` for the words and their readings, on `line` and
-// `text` for the lines. specs/Page.antt says what a page is.
+// The pages of a body: the lines that reviewers sign. Depends on `body` for the words, on `reading` and `refusal` for
+// what they are read as, and on `line`, `text` and `buffers` for the lines. specs/Page.antt says what a page is.
 #![tactic(auto)]
 
 ghost use Rattle.std.specs.Prelude.{◌≡◌, ◌≤◌, ◌<◌, length};
@@ -7,19 +7,17 @@ ghost use Rattle.buffers.specs.Bytes.{over, over_at, whole};
 ghost use Rattle.buffers.specs.Writes.{Wrote};
 ghost use Rattle.line.specs.Line.{plain, longest};
 ghost use Rattle.body.specs.Body.{words_in};
-ghost use Rattle.pages.specs.Page.{answer_text, word_line, text_column, longest_line, page_words, page_bytes, page_of};
-ghost use Rattle.pages.specs.Private.Steps.{Answers, columns_of, nothing};
+ghost use Rattle.reading.specs.Reading.{answer_of};
+ghost use Rattle.pages.specs.Page.{answer_text, word_line, text_column, longest_line, page_words, page_bytes};
+ghost use Rattle.pages.specs.Page.{paging_of, page_of};
+ghost use Rattle.pages.specs.Private.Steps.{Answers, columns_of};
+
+mod extent;
 
 use body::View;
-use reading::Decoded;
-
-// 0, how many words the page has and how many bytes; or the number and nothing.
-#[derive(Clone, Copy)]
-pub struct Paged {
-    pub number: u8,
-    pub words: usize,
-    pub bytes: usize,
-}
+pub use extent::Page;
+use reading::Insn;
+use refusal::Refusal;
 
 // The columns of a line.
 const WORD_COLUMN: usize = 17;
@@ -35,22 +33,25 @@ const LONGEST: usize = TEXT_COLUMN + line::LONGEST + 1;
 const NEWLINE: u8 = b'\n';
 
 // The text of an answer: its line, or `refused` and the number. Answers how many bytes it has.
-fn put_text(d: Decoded, out: &mut [u8]) -> usize
-    requires { (Answers plain d) × (longest ≤ length out.old) }
-    ensures value { result ≡ length (answer_text plain d) }
-    ensures out_after { out.new ≡ over (answer_text plain d) out.old }
+fn put_text(d: Result<Insn, Refusal>, out: &mut [u8]) -> usize
+    requires { (Answers plain (answer_of d)) × (longest ≤ length out.old) }
+    ensures value { result ≡ length (answer_text plain (answer_of d)) }
+    ensures out_after { out.new ≡ over (answer_text plain (answer_of d)) out.old }
 {
-    let number = d.number;
-    if number != 0 {
-        buffers::put(b"refused ", out, 0);
-        return NUMBER_COLUMN + text::count(number as u64, out, NUMBER_COLUMN);
+    match d {
+        Ok(i) => line::print(i, out).unwrap(),
+        Err(refusal) => {
+            buffers::put(b"refused ", out, 0);
+            NUMBER_COLUMN + text::count(u64::from(u8::from(refusal)), out, NUMBER_COLUMN)
+        }
     }
-    let i = d.insn;
-    let p = line::print(i, out);
-    p.length
 }
 
+// That word n is there is asked of the callers of the next four functions: a struct of body, view and word would have
+// a reference in it, which `View` of `body` speaks against.
+
 // The address and the word of a line, with a space after each.
+#[tactic(auto, using(crate::proofs::Pieces::columns_written, body::proofs::Words::there))]
 fn put_columns(body: &[u8], v: View, n: usize, out: &mut [u8])
     requires { (n < words_in body.now) × (text_column ≤ length out.old) }
     ensures { out.new ≡ over (columns_of v body.now n) out.old }
@@ -72,7 +73,9 @@ fn line_of(body: &[u8], v: View, n: usize, out: &mut [u8]) -> usize
     end + 1
 }
 
-// The same to the start of `out`, which is the free part of a page; nothing if it has no room there.
+// The same to the start of `out`, which is the free part of a page; nothing if it has no room there. Answers how many
+// bytes were written, 0 where it has no room: that is what `buffers::put_whole` answers, by its clause. The array and
+// its size go to one call, so a struct of the two would say no more.
 fn put_line(body: &[u8], v: View, n: usize, out: &mut [u8]) -> usize
     requires { n < words_in body.now }
     ensures value { result ≡ length (whole (word_line plain v body.now n) (length out.old)) }
@@ -85,57 +88,41 @@ fn put_line(body: &[u8], v: View, n: usize, out: &mut [u8]) -> usize
 }
 
 // The lines from word n on, as many as fit.
-fn lines(body: &[u8], v: View, n: usize, out: &mut [u8], place: usize) -> Paged
+fn lines(body: &[u8], v: View, n: usize, out: &mut [u8], place: usize) -> Page
     requires { (n < words_in body.now) × (place ≤ length out.old) }
-    ensures number_value { (result.number ≡ 0) ×
-        (result.words ≡ page_words plain v body.now n (length out.old) place) ×
+    ensures value { (result.words ≡ page_words plain v body.now n (length out.old) place) ×
         (result.bytes ≡ length (page_bytes plain v body.now n (length out.old) place)) }
     ensures out_after { out.new ≡
         over_at place (page_bytes plain v body.now n (length out.old) place) out.old }
 {
-    let words = body::count(body);
-    let mut k = n;
-    let mut at = place;
-    while k < words {
-        let size = put_line(body, v, k, &mut out[at..]);
+    let mut page = Page { words: 0, bytes: 0 };
+    for k in n..body::count(body) {
+        let size = put_line(body, v, k, &mut out[place + page.bytes..]);
+        // No line is empty, so it had no room.
         if size == 0 {
             break;
         }
-        at += size;
-        k += 1;
+        page.words += 1;
+        page.bytes += size;
     }
-    Paged {
-        number: 0,
-        words: k - n,
-        bytes: at - place,
-    }
-}
-
-fn no_page(number: u8) -> Paged
-    ensures { result ≡ nothing number }
-{
-    Paged {
-        number,
-        words: 0,
-        bytes: 0,
-    }
+    page
 }
 
 // The page from word n on, into `out` from a place on.
-pub fn page(body: &[u8], v: View, n: usize, out: &mut [u8], place: usize) -> Paged
-    ensures value { result ≡ page_of plain v body.now n (length out.old) place }
+pub fn page(body: &[u8], v: View, n: usize, out: &mut [u8], place: usize) -> Result<Page, Refusal>
+    ensures value { paging_of result ≡ page_of plain v body.now n (length out.old) place }
     ensures out_after { out.new ≡
         over_at place (page_bytes plain v body.now n (length out.old) place) out.old }
 {
     if body::count(body) <= n {
-        return no_page(refusal::NO_INDEX);
+        return Err(Refusal::NoIndex);
     }
     if out.len() < place {
-        return no_page(refusal::NO_ROOM);
+        return Err(Refusal::NoRoom);
     }
-    let p = lines(body, v, n, out, place);
-    if p.words == 0 {
-        return no_page(refusal::NO_ROOM);
+    let page = lines(body, v, n, out, place);
+    if page.words == 0 {
+        return Err(Refusal::NoRoom);
     }
-    p
+    Ok(page)
 }

@@ -1,2 +1,3 @@
-pub mod Same
 pub mod Numbered
+pub mod Same
+pub mod Answer

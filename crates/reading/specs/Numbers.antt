@@ -1,6 +1,6 @@
 -- The numbers and values that document 01's packed record has for each case of an operand, an effect, a target and a
 -- flow.
-use Rattle.std.specs.Prelude.{ℕ, ◌+◌, ℤ, pos}
+use Rattle.std.specs.Prelude.{ℕ, ◌+◌, ℤ, pos, Option, None, Some}
 use Rattle.word.specs.Numbers.{modulo64}
 use Rattle.reading.specs.declared.Op.{Op}
 use Rattle.reading.specs.declared.Op.TheVariants.{Reg, FReg, Imm, Mem, Addr, Cop0}
@@ -8,8 +8,6 @@ use Rattle.reading.specs.declared.Flow.{Flow}
 use Rattle.reading.specs.declared.Flow.TheVariants as flow
 use Rattle.reading.specs.declared.Effect.{Effect}
 use Rattle.reading.specs.declared.Effect.TheVariants as effect
-use Rattle.reading.specs.declared.Target.{Target}
-use Rattle.reading.specs.declared.Target.TheVariants as target
 use Rattle.reading.specs.declared.Parts.{Parts}
 
 -- number, first register, second register, size, signed value, address; what is absent is zero
@@ -34,9 +32,9 @@ effect_parts (effect.Mem t s z n) = parts 3 t s n z 0
 effect_parts (effect.Write t) = parts 4 t 0 0 (pos 0) 0
 
 -- whether it is present, and where it is
-abbrev pub target_parts : Target → Parts
-target_parts target.None = parts 0 0 0 0 (pos 0) 0
-target_parts (target.At a) = parts 1 0 0 0 (pos 0) a
+abbrev pub target_parts : Option ℕ → Parts
+target_parts None = parts 0 0 0 0 (pos 0) 0
+target_parts (Some a) = parts 1 0 0 0 (pos 0) a
 
 -- the record's 8-byte value: a negative number in two's complement
 abbrev pub value_of : Parts → ℕ

@@ -1,5 +1,5 @@
 // The mnemonics as numbers, in the order of the manual's opcode tables. The numbers are those of specs/Kind.antt, as
-// the contract of `all` says.
+// the contract of `all` says. Constants and not an enum: a reading may have any number for its mnemonic (`Insn`).
 ghost use Rattle.std.specs.Prelude.{◌≡◌};
 ghost use Rattle.reading.specs.Kind.{kinds};
 
@@ -463,6 +463,7 @@ const ALL: [u8; MANY as usize] = [
 // ── written by hand ──
 
 // Nobody calls it: it is here to be proved.
+#[tactic(auto, unfolding(crate::specs::Kind::kinds))]
 fn all() -> [u8; MANY as usize]
     ensures { result ≡ kinds }
 {

@@ -15,7 +15,8 @@ use Rattle.classes.specs.Table.{table}
 use Rattle.classes.specs.Refusals.{Refusal, refusals}
 use Rattle.classes.specs.Decoded.{decoded_by, decoded_of}
 use Rattle.classes.proofs.Find.{every, reading_by_lem}
-use Rattle.classes.proofs.Operands.{known, known_table, known_kind, known_most, Each, outs_each, any_code, slot_past, each_slot}
+use Rattle.classes.proofs.Operands.{known, known_table, known_kind, known_most}
+use Rattle.classes.proofs.Operands.{Each, outs_each, any_code, slot_past, each_slot}
 use Rattle.record.specs.Theorems.{I64, Fits, Proper}
 
 -- ── parts without a value, with a value, with an address ──
@@ -62,7 +63,9 @@ module _ (w va : ℕ) where
   outs_fit : (φ : Form) → Each OpFits (outs φ va f)
   outs_fit φ =
       outs_each OpFits (λ c. true) va f (λ c t. out_fits c)
-      (value_fits (i64 (size_of (f rd) (f sa)) (size_fits (f rd) (f sa) (omega (arith, fields_fit w rd)) (omega (arith, fields_fit w sa)))))
+      (value_fits
+      (i64 (size_of (f rd) (f sa))
+      (size_fits (f rd) (f sa) (omega (arith, fields_fit w rd)) (omega (arith, fields_fit w sa)))))
       φ (any_code φ)
 
 -- ── what is made of operands ──

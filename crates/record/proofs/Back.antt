@@ -1,4 +1,5 @@
 -- Each part of a reading comes back from the bytes that it was packed into.
+use Rattle.std.specs.Prelude.{None, Option, Some}
 use Rattle.std.proofs.Common.{◌≡◌, ℕ, ◌+◌, ◌*◌, ◌%◌, ◌^◌, ◌<◌, ◌≤◌, Bool, true, false, eqb, ltb, List, [], ◌∷◌, ◌++◌, length, get_or, take, drop, ℤ, pos, negsuc, sym, refl, ap, ◌∙◌, add-zero, arith, length-append, take_at, w64, SFits, ltb-false}
 use Rattle.word.specs.Numbers.{signed, modulo64}
 use Rattle.word.proofs.Signed.{modulo_small, modulo_back}
@@ -9,8 +10,6 @@ use Rattle.reading.specs.declared.Flow.{Flow}
 use Rattle.reading.specs.declared.Flow.TheVariants as flow
 use Rattle.reading.specs.declared.Effect.{Effect}
 use Rattle.reading.specs.declared.Effect.TheVariants as effect
-use Rattle.reading.specs.declared.Target.{Target}
-use Rattle.reading.specs.declared.Target.TheVariants as target
 use Rattle.reading.specs.declared.Insn.{Insn}
 use Rattle.reading.specs.declared.Parts.{Parts}
 use Rattle.reading.specs.Reading.{operand, unused}
@@ -70,18 +69,18 @@ flow_back flow.CondJump = refl
 flow_back flow.Ret = refl
 flow_back flow.Interrupt = refl
 
-pub target_back : (b : Bool) (t : Target) → Fits (target_parts t) →
+pub target_back : (b : Bool) (t : Option ℕ) → Fits (target_parts t) →
     target_by (bit b + 2 * (target_parts t).number) (value_in (target_parts t)) ≡ t
-target_back true target.None f = refl
-target_back false target.None f = refl
-target_back true (target.At a) f = ap target.At (address_back a f.address)
-target_back false (target.At a) f = ap target.At (address_back a f.address)
+target_back true None f = refl
+target_back false None f = refl
+target_back true (Some a) f = ap Some (address_back a f.address)
+target_back false (Some a) f = ap Some (address_back a f.address)
 
-pub mark_back : (b : Bool) (t : Target) → eqb ((bit b + 2 * (target_parts t).number) % 2) 1 ≡ b
-mark_back true target.None = refl
-mark_back false target.None = refl
-mark_back true (target.At a) = refl
-mark_back false (target.At a) = refl
+pub mark_back : (b : Bool) (t : Option ℕ) → eqb ((bit b + 2 * (target_parts t).number) % 2) 1 ≡ b
+mark_back true None = refl
+mark_back false None = refl
+mark_back true (Some a) = refl
+mark_back false (Some a) = refl
 
 -- ── the four slots ──
 

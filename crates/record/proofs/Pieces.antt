@@ -1,9 +1,15 @@
 -- Some bytes and then a number, at a place; and pieces one after the other.
-use Rattle.std.proofs.Common.{◌≡◌, ℕ, ◌+◌, ◌^◌, ◌<◌, ◌≤◌, Bool, eqb, List, [], ◌∷◌, ◌++◌, length, get_or, take, drop, sym, refl, ap, ◌∙◌, subst, add-zero, arith, length-append, length-drop, length-take-le, get_or-drop, get_or-take, take-take, drop-drop, take_at, take-add, drop_at, eq-eqb, eqb-true}
+use Rattle.std.proofs.lemmas.Bool.{eqb-false}
+use Rattle.std.proofs.lemmas.Bool.Decides.{Decides-eqb}
+use Rattle.std.proofs.lemmas.Slice.Eq.{slice_eq-Decides}
+use Rattle.std.specs.Cmp.Lexicographic.{pointwise}
+use Rattle.record.specs.Record.{size}
+use Rattle.std.proofs.Common.{◌≡◌, ℕ, zero, suc, ◌+◌, ◌-◌, ◌*◌, ◌^◌, ◌<◌, ◌≤◌, Bool, true, false, eqb, List, [], ◌++◌, length, take, drop, sym, refl, ap, ◌∙◌, subst, arith, length-append, length-drop, length-take-le, take-take, drop-drop, take_at, take-add, drop_at, eq-eqb, eqb-true}
 use Rattle.buffers.specs.Bytes.{low_bytes, num}
-use Rattle.buffers.proofs.Laws.{bytes_at}
 use Rattle.buffers.proofs.Numbers.{num_le}
 use Rattle.laws.proofs.Says.{Says}
+use Rattle.reading.specs.declared.Insn.{Insn}
+use Rattle.record.specs.Record.{slot_of, slot_bytes}
 use Rattle.record.specs.Private.Steps.{part}
 
 -- ── p and then q, of n and m bytes ──
@@ -22,31 +28,21 @@ module _ (at n m : ℕ) (p q l : List ℕ) (long : length p ≡ n) where
 
   pub both_parts : p ≡ part at n l → q ≡ part (at + n) m l → p ++ q ≡ part at (n + m) l
   both_parts e f =
-      (λ i. e i ++ f i) ∙ ap (λ (x : List ℕ). take n (drop at l) ++ take m x) (sym (drop-drop n at l)) ∙ sym (take-add n m (drop at l))
+      (λ i. e i ++ f i) ∙ ap (λ (x : List ℕ). take n (drop at l) ++ take m x) (sym (drop-drop n at l))
+      ∙ sym (take-add n m (drop at l))
+
+-- do the bytes from a place on start with p?
+pub starts : (at n : ℕ) (p l : List ℕ) {r : Bool} → length p ≡ n → at + n ≤ size →
+    r ≡ pointwise eqb p (take (length p) (take (size - at) (drop at l))) → Says r (p ≡ part at n l)
+starts at n p l {r} long h e =
+    subst (λ (q : List ℕ). Says r (p ≡ q))
+    (take-take (length p) (size - at) (drop at l) (omega arith) ∙ ap (λ (m : ℕ). take m (drop at l)) long)
+    (slice_eq-Decides Decides-eqb p (take (length p) (take (size - at) (drop at l))) r e)
 
 -- ── eight bytes as a number ──
 
 pub one_number : (v n : ℕ) → v < 2 ^ 64 → n < 2 ^ 64 → low_bytes 8 v ≡ low_bytes 8 n → v ≡ n
 one_number v n h k e = sym (num_le 8 v h) ∙ ap num e ∙ num_le 8 n k
-
--- ── a piece byte by byte ──
-
--- its k-th byte
-pub byte_of : (at n : ℕ) (l p : List ℕ) (k : ℕ) → k < n → p ≡ part at n l → get_or l (at + k) 0 ≡ get_or p k 0
-byte_of at n l p k h e = sym (ap (λ (x : List ℕ). get_or x k 0) e ∙ get_or-take n (drop at l) k 0 h ∙ rw get_or-drop refl)
-
--- its first byte
-pub first_byte : (at n : ℕ) (l p : List ℕ) → 0 < n → p ≡ part at n l → get_or l at 0 ≡ get_or p 0 0
-first_byte at n l p h e = ap (λ (k : ℕ). get_or l k 0) (sym (add-zero at)) ∙ byte_of at n l p 0 h e
-
-pub two_bytes : (at x y : ℕ) (l : List ℕ) → at + 2 ≤ length l →
-    get_or l at 0 ≡ x → get_or l (at + 1) 0 ≡ y → x ∷ y ∷ [] ≡ part at 2 l
-two_bytes at x y l h p q = (λ i. sym p i ∷ sym q i ∷ []) ∙ sym (bytes_at 1 at l h)
-
-pub four_bytes : (at w x y z : ℕ) (l : List ℕ) → at + 4 ≤ length l →
-    get_or l at 0 ≡ w → get_or l (at + 1) 0 ≡ x → get_or l (at + 2) 0 ≡ y → get_or l (at + 3) 0 ≡ z →
-    w ∷ x ∷ y ∷ z ∷ [] ≡ part at 4 l
-four_bytes at w x y z l h p q r s = (λ i. sym p i ∷ sym q i ∷ sym r i ∷ sym s i ∷ []) ∙ sym (bytes_at 3 at l h)
 
 -- some bytes that are there, and a number n in the eight bytes after them: is it v?
 pub then_number : (at k : ℕ) (bs l : List ℕ) (v n : ℕ) → length bs ≡ k →
@@ -57,39 +53,48 @@ then_number at k bs l v n long h p q b e = (
   λ f. eq-eqb n v (sym (one_number v n p q (right_part at k 8 bs (low_bytes 8 v) l long (omega arith) f ∙ sym e))),
 )
 
--- the same bytes in other words
-pub in_other_words : {b : Bool} {p q r : List ℕ} → p ≡ q → Says b (p ≡ r) → Says b (q ≡ r)
-in_other_words {b} {r = r} e s = subst (λ (x : List ℕ). Says b (x ≡ r)) e s
+-- ── the slots, ten bytes each ──
 
--- ── the four slots, ten bytes each ──
+abbrev slot : Insn → ℕ → List ℕ
+slot i k = slot_bytes (slot_of i k)
 
-module _ (s t u v l : List ℕ) (a : length s ≡ 10) (b : length t ≡ 10) (c : length u ≡ 10) (h : 64 ≤ length l) where
-  long_two : length (s ++ t) ≡ 20
-  long_two = length-append s t ∙ omega (arith, a, b)
+-- the first n
+abbrev pub slots : Insn → ℕ → List ℕ
+slots i zero = []
+slots i (suc n) = slots i n ++ slot i n
 
-  long_three : length (s ++ t ++ u) ≡ 30
-  long_three = length-append (s ++ t) u ∙ omega (arith, c, long_two)
+pub slots_long : (i : Insn) (n : ℕ) → length (slots i n) ≡ n * 10
+slots_long i zero = refl
+slots_long i (suc n) = length-append (slots i n) (slot i n) ∙ omega (arith, slots_long i n)
 
-  three : s ++ t ++ u ++ v ≡ part 24 40 l → s ++ t ++ u ≡ part 24 30 l
-  three e = left_part 24 30 10 (s ++ t ++ u) v l long_three e
+module _ (i : Insn) (l : List ℕ) where
+  abbrev pub Slot : ℕ → Type 0
+  Slot k = slot i k ≡ part (24 + k * 10) 10 l
 
-  two : s ++ t ++ u ++ v ≡ part 24 40 l → s ++ t ≡ part 24 20 l
-  two e = left_part 24 20 10 (s ++ t) u l long_two (three e)
+  more : (n : ℕ) → suc n * 10 ≡ n * 10 + 10
+  more n = omega arith
 
-  pub slot_0 : s ++ t ++ u ++ v ≡ part 24 40 l → s ≡ part 24 10 l
-  slot_0 e = left_part 24 10 10 s t l a (two e)
+  -- they are there if each of them is
+  pub all_slots : (n : ℕ) → ((k : ℕ) → k < n → Slot k) → slots i n ≡ part 24 (n * 10) l
+  all_slots zero f = refl
+  all_slots (suc n) f =
+      rw (more n)
+      (both_parts 24 (n * 10) 10 (slots i n) (slot i n) l (slots_long i n) (all_slots n (λ k h. f k (omega arith)))
+      (f n (omega arith)))
 
-  pub slot_1 : s ++ t ++ u ++ v ≡ part 24 40 l → t ≡ part 34 10 l
-  slot_1 e = right_part 24 10 10 s t l a (omega arith) (two e)
+  one_more : (n : ℕ) → ((k : ℕ) → k < n → Slot k) → Slot n → (k : ℕ) → k < suc n → Slot k
+  one_more n f s k h = go (eqb k n) refl
+    where
+      go : (b : Bool) → eqb k n ≡ b → Slot k
+      go true e = subst Slot (sym (eqb-true k n e)) s
+      go false e = f k (omega (arith, eqb-false k n e))
 
-  pub slot_2 : s ++ t ++ u ++ v ≡ part 24 40 l → u ≡ part 44 10 l
-  slot_2 e = right_part 24 20 10 (s ++ t) u l long_two (omega arith) (three e)
-
-  pub slot_3 : s ++ t ++ u ++ v ≡ part 24 40 l → v ≡ part 54 10 l
-  slot_3 e = right_part 24 30 10 (s ++ t ++ u) v l long_three (omega arith) e
-
-  pub all_slots : s ≡ part 24 10 l → t ≡ part 34 10 l → u ≡ part 44 10 l → v ≡ part 54 10 l →
-      s ++ t ++ u ++ v ≡ part 24 40 l
-  all_slots p q r w =
-      both_parts 24 30 10 (s ++ t ++ u) v l long_three
-      (both_parts 24 20 10 (s ++ t) u l long_two (both_parts 24 10 10 s t l a p q) r) w
+  -- each of them is there if all are
+  pub each_slot : (n : ℕ) → 24 + n * 10 ≤ length l → slots i n ≡ part 24 (n * 10) l → (k : ℕ) → k < n → Slot k
+  each_slot zero h e k below = absurd (omega arith)
+  each_slot (suc n) h e k below =
+      let whole : slots i n ++ slot i n ≡ part 24 (n * 10 + 10) l = rw (more n) at e in
+      one_more n
+      (each_slot n (omega arith) (left_part 24 (n * 10) 10 (slots i n) (slot i n) l (slots_long i n) whole))
+      (right_part 24 (n * 10) 10 (slots i n) (slot i n) l (slots_long i n) (omega arith) whole)
+      k below

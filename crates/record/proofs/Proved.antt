@@ -48,7 +48,8 @@ forth : (l : List ℕ) (i : Insn) → unpacked l ≡ accepted_as i → record_of
 forth l i e = go (ltb (length l) size) (is_record l) refl e
   where
     answer : Bool → Bool → Decoded
-    answer s t = cond s (refused_of refusal.short_record) (cond t (accepted_as (insn_in l)) (refused_of refusal.no_word))
+    answer s t =
+        cond s (refused_of refusal.short_record) (cond t (accepted_as (insn_in l)) (refused_of refusal.no_word))
 
     number : Decoded → ℕ
     number d = d.number
@@ -62,7 +63,8 @@ forth l i e = go (ltb (length l) size) (is_record l) refl e
 pub answer_back : (d : Decoded) → d.number ≡ 0 → Proper d.insn → (after : List ℕ) →
     unpacked (record_of d ++ after) ≡ d
 answer_back d e q after =
-    ap (λ (x : Decoded). unpacked (record_of x ++ after)) (accepted_insn d e) ∙ back d.insn q after ∙ sym (accepted_insn d e)
+    ap (λ (x : Decoded). unpacked (record_of x ++ after)) (accepted_insn d e) ∙ back d.insn q after
+    ∙ sym (accepted_insn d e)
 
 one : (w v va ua : ℕ) (wide broad : Bool) →
     (decoded_of w va wide).number ≡ 0 → (decoded_of v ua broad).number ≡ 0 →

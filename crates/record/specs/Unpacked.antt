@@ -1,5 +1,6 @@
 -- WHAT A RECORD IS UNPACKED TO, for any bytes at all.
-use Rattle.std.specs.Prelude.{ℕ, ◌+◌, ◌/◌, ◌%◌, Bool, cond, ◌&&◌, List, [], ◌∷◌, length, get_or, take, drop, ℤ, ◌==◌}
+use Rattle.std.specs.Prelude.{ℕ, ◌+◌, ◌/◌, ◌%◌, Bool, cond, ◌&&◌, List, []}
+use Rattle.std.specs.Prelude.{◌∷◌, length, get_or, take, drop, ℤ, ◌==◌, None, Option, Some}
 use Rattle.std.specs.Prelude.{nat_lt, slice_index, slice_index_or}
 use Rattle.refusal.specs.Numbers as refusal
 use Rattle.word.specs.Numbers.{signed}
@@ -10,8 +11,6 @@ use Rattle.reading.specs.declared.Flow.{Flow}
 use Rattle.reading.specs.declared.Flow.TheVariants as flow
 use Rattle.reading.specs.declared.Effect.{Effect}
 use Rattle.reading.specs.declared.Effect.TheVariants as effect
-use Rattle.reading.specs.declared.Target.{Target}
-use Rattle.reading.specs.declared.Target.TheVariants as target
 use Rattle.reading.specs.declared.Insn.{Insn}
 use Rattle.reading.specs.declared.Decoded.{Decoded}
 use Rattle.reading.specs.Kind.{many}
@@ -42,8 +41,8 @@ flow_by n =
     slice_index_or (flow.None ∷ flow.Call ∷ flow.Jump ∷ flow.CondJump ∷ flow.Ret ∷ flow.Interrupt ∷ []) n flow.None
 
 -- bit 1 of the byte of marks says whether there is a target
-abbrev pub target_by : ℕ → ℕ → Target
-target_by m v = cond (m / 2 % 2 == 1) (target.At v) target.None
+abbrev pub target_by : ℕ → ℕ → Option ℕ
+target_by m v = cond (m / 2 % 2 == 1) (Some v) None
 
 -- the effect in bytes 12 to 23
 abbrev pub effect_in : List ℕ → Effect

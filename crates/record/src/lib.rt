@@ -1,19 +1,21 @@
 // The packed record of document 01: 80 bytes for what reading a word gives. Packing it, and unpacking it.
-// Depends on `reading`, `buffers` and `names`; specs/Record.antt says what the bytes are.
+// Depends on `reading`, `buffers`, `names`, `word` and `refusal`; specs/Record.antt says what the bytes are.
 #![tactic(auto)]
 
-ghost use Rattle.std.specs.Prelude.{◌≡◌, ◌+◌, ◌*◌, ◌%◌, ◌^◌, ◌<◌, ◌≤◌, true, ◌↔◌, ◌∷◌, ◌++◌, length, take, drop};
+ghost use Rattle.std.specs.Prelude.{◌≡◌, ◌+◌, ◌*◌, ◌%◌, ◌^◌, ◌<◌, ◌≤◌, true, ◌↔◌, length, take, drop};
 ghost use Rattle.word.specs.Numbers.{signed};
-ghost use Rattle.reading.specs.Numbers.{target_parts, effect_parts, value_of};
-ghost use Rattle.buffers.specs.Bytes.{over, over_at, low_bytes, num_at};
+ghost use Rattle.reading.specs.Reading.{answer_of};
+ghost use Rattle.reading.specs.Numbers.{target_parts, value_of};
+ghost use Rattle.buffers.specs.Bytes.{over_at};
 ghost use Rattle.names.specs.Names.{name_bytes};
 ghost use Rattle.record.specs.Record.{size, bit, head_bytes, effect_bytes, slot_of, slot_bytes, operand_bytes};
-ghost use Rattle.record.specs.Record.{number_bytes, pack_number, packed};
+ghost use Rattle.record.specs.Record.{insn_bytes, number_bytes, pack_number, packed};
 ghost use Rattle.record.specs.Unpacked.{op_by, effect_by, flow_by, target_by};
 ghost use Rattle.record.specs.Unpacked.{effect_in, slot_in, slots_in, insn_in, unpacked};
-ghost use Rattle.record.specs.Private.Steps.{part, Holds};
+ghost use Rattle.record.specs.Private.Steps.{bytes_of, part, Holds};
 
-use reading::{Decoded, Effect, Flow, Insn, Op, Operand, Parts, Target};
+use reading::{Decoded, Effect, Flow, Insn, Op, Operand, Parts};
+use refusal::Refusal;
 
 pub const SIZE: usize = 80;
 
@@ -36,197 +38,170 @@ const OPERAND_SIZE: usize = 10;
 
 const NAME: usize = 64;
 
-// ── packing ──
+// ── pieces ──
 
-// The record of an answer, to the start of `out`: 0 or the answer's own number, and that of a short record if `out` is
-// too short.
-// Every step takes the answer whole: it lies in memory once, and each step loads what it needs.
-pub fn pack(d: Decoded, out: &mut [u8]) -> u8
-    ensures value { result ≡ pack_number d (length out.old) }
-    ensures out_after { out.new ≡ packed d out.old }
-{
-    if out.len() < SIZE {
-        return refusal::SHORT_RECORD;
-    }
-    if d.number != 0 {
-        refuse(d.number, out);
-        return d.number;
-    }
-    front(d, out);
-    operands(d, out);
-    name(d, out);
-    0
+// A piece of a record, of the head, an effect or an operand: N bytes, and a value in the eight after them.
+#[derive(Clone, Copy)]
+struct Piece<const N: usize> {
+    bytes: [u8; N],
+    value: u64,
 }
 
-// A refusal's record: its number and zeros.
-fn refuse(n: u8, out: &mut [u8])
-    requires { size ≤ length out.old }
-    ensures { out.new ≡ over (number_bytes n) out.old }
-{
-    let mut b = [0u8; 80];
-    b[0] = n;
-    buffers::put(&b, out, 0);
+impl<const N: usize> Piece<N> {
+    fn put(self, record: &mut [u8; SIZE], at: usize)
+        requires { at + N + 8 ≤ size }
+        ensures { «record».new ≡ over_at at (bytes_of self.entry) «record».old }
+    {
+        buffers::put(&self.bytes, record, at);
+        buffers::put8(self.value, record, at + N);
+    }
+
+    fn is_at(self, record: &[u8; SIZE], at: usize) -> bool
+        requires { at + N + 8 ≤ size }
+        ensures { (result ≡ true) ↔ (bytes_of self.entry ≡ part at (N + 8) «record».now) }
+    {
+        record[at..].starts_with(&self.bytes) && buffers::get8(record, at + N) == self.value
+    }
 }
 
-fn front(d: Decoded, out: &mut [u8])
-    requires { size ≤ length out.old }
-    ensures { out.new ≡
-        over_at 0 (head_bytes d.insn ++ effect_bytes d.insn.effect) out.old }
+// The eight bytes of a value, signed or an address: of an operand, an effect or a target one of the two is 0. A sum of
+// two fields, so that no conversion has this.
+fn value_of(p: Parts) -> u64
+    ensures { result ≡ value_of p % 2 ^ 64 }
 {
-    head(d, out);
-    effect(d, out);
+    word::twos_complement(p.value).wrapping_add(p.address)
 }
 
 // Mark in bit 0, target present in bit 1.
-fn marks(mark: bool, t: Target) -> u8
-    ensures { result ≡ bit mark + 2 * (target_parts t).number }
+fn marks(mark: bool, target: Option<u64>) -> u8
+    ensures { result ≡ bit mark + 2 * (target_parts target).number }
 {
-    match t {
-        Target::None => if mark { 1 } else { 0 },
-        Target::At(_) => if mark { 3 } else { 2 },
+    u8::from(mark) + 2 * u8::from(target.is_some())
+}
+
+fn head(i: &Insn) -> Piece<4>
+    ensures { bytes_of result ≡ head_bytes i.now }
+{
+    Piece {
+        bytes: [0, u8::from(i.flow), marks(i.delay_slot, i.target), i.count],
+        value: value_of(Parts::from(i.target)),
     }
 }
 
-fn head(d: Decoded, out: &mut [u8])
-    requires { size ≤ length out.old }
-    ensures { out.new ≡ over_at 0 (head_bytes d.insn) out.old }
+fn effect(e: Effect) -> Piece<4>
+    ensures { bytes_of result ≡ effect_bytes e }
 {
-    let i = d.insn;
-    let flow = i.flow;
-    let target = i.target;
-    let t = reading::target_parts(target);
-    buffers::put1(0, out, 0);
-    buffers::put1(reading::flow_number(flow), out, FLOW);
-    buffers::put1(marks(i.delay_slot, target), out, MARKS);
-    buffers::put1(i.count, out, COUNT);
-    buffers::put8(value_of(t), out, TARGET);
-}
-
-fn effect(d: Decoded, out: &mut [u8])
-    requires { size ≤ length out.old }
-    ensures { out.new ≡ over_at 12 (effect_bytes d.insn.effect) out.old }
-{
-    let i = d.insn;
-    let e = i.effect;
-    let p = reading::effect_parts(e);
-    buffers::put1(p.number, out, EFFECT);
-    buffers::put1(p.first, out, EFFECT + 1);
-    buffers::put1(p.second, out, EFFECT + 2);
-    buffers::put1(p.size, out, EFFECT + 3);
-    buffers::put8(value_of(p), out, EFFECT_VALUE);
-}
-
-fn operands(d: Decoded, out: &mut [u8])
-    requires { size ≤ length out.old }
-    ensures { out.new ≡ over_at 24 (operand_bytes d.insn) out.old }
-{
-    operand(d, 0, out);
-    operand(d, 1, out);
-    operand(d, 2, out);
-    operand(d, 3, out);
-}
-
-fn operand(d: Decoded, k: usize, out: &mut [u8])
-    requires { (k < 4) × (size ≤ length out.old) }
-    ensures { out.new ≡ over_at (24 + k * 10) (slot_bytes (slot_of d.insn k)) out.old }
-{
-    let at = OPERANDS + k * OPERAND_SIZE;
-    let i = d.insn;
-    if k < i.count as usize {
-        let p = slot(d, k);
-        buffers::put1(p.number, out, at);
-        buffers::put1(p.first, out, at + 1);
-        buffers::put8(value_of(p), out, at + 2);
-    } else {
-        let zeros = [0u8; 10];
-        buffers::put(&zeros, out, at);
+    let p = Parts::from(e);
+    Piece {
+        bytes: [p.number, p.first, p.second, p.size],
+        value: value_of(p),
     }
 }
 
 // The operand in slot k; zeros if it is not used.
-fn slot(d: Decoded, k: usize) -> Parts
+fn slot(i: &Insn, k: usize) -> Piece<2>
     requires { k < 4 }
-    ensures { result ≡ slot_of d.insn k }
+    ensures { bytes_of result ≡ slot_bytes (slot_of i.now k) }
 {
-    let i = d.insn;
-    if k < i.count as usize {
-        let ops = i.ops;
-        let slot = ops[k];
-        let op = slot.op;
-        return reading::op_parts(op);
+    if usize::from(i.count) <= k {
+        return Piece {
+            bytes: [0; 2],
+            value: 0,
+        };
     }
-    Parts {
-        number: 0,
-        first: 0,
-        second: 0,
-        size: 0,
-        value: 0,
-        address: 0,
+    let p = Parts::from(i.ops[k].op);
+    Piece {
+        bytes: [p.number, p.first],
+        value: value_of(p),
     }
 }
 
-fn name(d: Decoded, out: &mut [u8])
-    requires { size ≤ length out.old }
-    ensures { out.new ≡ over_at 64 (name_bytes d.insn.mnemonic) out.old }
+// ── packing ──
+
+// The record of an answer, to the start of `out`: 0 or the answer's own number, and that of a short record if `out` is
+// too short. Any number may stand beside a reading here, so the answer comes as a `Decoded`.
+pub fn pack(d: Decoded, out: &mut [u8]) -> u8
+    ensures value { result ≡ pack_number d (length out.old) }
+    ensures out_after { out.new ≡ packed d out.old }
 {
-    let i = d.insn;
-    buffers::put(&names::name_of(i.mnemonic), out, NAME);
+    let Some(record) = out.first_chunk_mut::<SIZE>() else {
+        return u8::from(Refusal::ShortRecord);
+    };
+    if d.number == 0 {
+        accept(&d.insn, record);
+    } else {
+        refuse(d.number, record);
+    }
+    d.number
 }
 
-// The eight bytes of a value, signed or an address: of an operand, an effect or a target one of the two is 0.
-fn value_of(p: Parts) -> u64
-    ensures { result ≡ value_of p % 2 ^ 64 }
+// A refusal's record: its number and zeros.
+fn refuse(n: u8, record: &mut [u8; SIZE])
+    ensures { «record».new ≡ number_bytes n }
 {
-    std::num::wrapping_add_u64(word::twos_complement(p.value), p.address)
+    *record = [0; SIZE];
+    record[0] = n;
+}
+
+fn accept(i: &Insn, record: &mut [u8; SIZE])
+    ensures { «record».new ≡ insn_bytes i.now }
+{
+    head(i).put(record, 0);
+    effect(i.effect).put(record, EFFECT);
+    operands(i, record);
+    buffers::put(&names::name_of(i.mnemonic), record, NAME);
+}
+
+fn operands(i: &Insn, record: &mut [u8; SIZE])
+    ensures { «record».new ≡ over_at 24 (operand_bytes i.now) «record».old }
+{
+    for k in 0..i.ops.len() {
+        slot(i, k).put(record, OPERANDS + k * OPERAND_SIZE);
+    }
 }
 
 // ── unpacking ──
 
 // The reading whose record these bytes begin with; refused if there are fewer than 80, or if they are not the record of
 // any reading.
-pub fn unpack(b: &[u8]) -> Decoded
-    ensures { result ≡ unpacked b.now }
+pub fn unpack(b: &[u8]) -> Result<Insn, Refusal>
+    ensures { answer_of result ≡ unpacked b.now }
 {
-    if b.len() < SIZE {
-        return reading::refused(refusal::SHORT_RECORD);
-    }
-    let d = Decoded {
-        number: 0,
-        insn: insn_in(b),
-    };
-    if is_record(d, b) {
-        d
+    let record = b.first_chunk::<SIZE>().ok_or(Refusal::ShortRecord)?;
+    let mnemonic = names::kind_of(name_in(record)).ok_or(Refusal::NoWord)?;
+    let i = insn_in(record, mnemonic);
+    if is_record(&i, record) {
+        Ok(i)
     } else {
-        reading::refused(refusal::NO_WORD)
+        Err(Refusal::NoWord)
     }
+}
+
+fn name_in(record: &[u8; SIZE]) -> [u8; 16]
+    ensures { result ≡ take 16 (drop 64 «record».now) }
+{
+    *record.last_chunk().unwrap()
 }
 
 // The reading that the bytes say, where a number that is not of any case counts as 0.
-fn insn_in(b: &[u8]) -> Insn
-    requires { size ≤ length b.now }
-    ensures { result ≡ insn_in b.now }
+fn insn_in(record: &[u8; SIZE], mnemonic: u8) -> Insn
+    requires { mnemonic ≡ (insn_in «record».now).mnemonic }
+    ensures { result ≡ insn_in «record».now }
 {
     Insn {
-        mnemonic: names::kind_of(name_in(b)),
-        count: b[COUNT],
-        ops: operands_in(b),
-        flow: flow_by(b[FLOW]),
-        target: target_by(b[MARKS], buffers::get8(b, TARGET)),
-        delay_slot: b[MARKS] % 2 == 1,
-        effect: effect_in(b),
+        mnemonic,
+        count: record[COUNT],
+        ops: operands_in(record),
+        flow: flow_by(record[FLOW]),
+        target: target_by(record[MARKS], buffers::get8(record, TARGET)),
+        delay_slot: record[MARKS] % 2 == 1,
+        effect: effect_in(record),
     }
 }
 
-// Bytes 64 to 79.
-fn name_in(b: &[u8]) -> [u8; 16]
-    requires { size ≤ length b.now }
-    ensures { result ≡ take 16 (drop 64 b.now) }
-{
-    [
-        b[64], b[65], b[66], b[67], b[68], b[69], b[70], b[71], b[72], b[73], b[74], b[75], b[76],
-        b[77], b[78], b[79],
-    ]
-}
+// The functions from numbers are total: a number of no case counts as 0 (specs/Unpacked.antt, `flow_by` and its like),
+// and a `TryFrom` would refuse it. Nor is there a `From<u8>`: it would offer everywhere that 77 is `Flow::None`, which
+// only the bytes here count as, until they are compared with the record.
 
 fn flow_by(n: u8) -> Flow
     ensures { result ≡ flow_by n }
@@ -241,26 +216,21 @@ fn flow_by(n: u8) -> Flow
     }
 }
 
-fn target_by(marks: u8, v: u64) -> Target
+fn target_by(marks: u8, v: u64) -> Option<u64>
     ensures { result ≡ target_by marks v }
 {
-    if marks / 2 % 2 == 1 {
-        Target::At(v)
-    } else {
-        Target::None
-    }
+    (marks / 2 % 2 == 1).then_some(v)
 }
 
-fn effect_in(b: &[u8]) -> Effect
-    requires { size ≤ length b.now }
-    ensures { result ≡ effect_in b.now }
+fn effect_in(record: &[u8; SIZE]) -> Effect
+    ensures { result ≡ effect_in «record».now }
 {
     effect_by(
-        b[EFFECT],
-        b[EFFECT + 1],
-        b[EFFECT + 2],
-        b[EFFECT + 3],
-        buffers::get8(b, EFFECT_VALUE),
+        record[EFFECT],
+        record[EFFECT + 1],
+        record[EFFECT + 2],
+        record[EFFECT + 3],
+        buffers::get8(record, EFFECT_VALUE),
     )
 }
 
@@ -269,31 +239,29 @@ fn effect_by(n: u8, first: u8, second: u8, width: u8, v: u64) -> Effect
 {
     match n {
         1 => Effect::SetAddr(first, v),
-        2 => Effect::AddImm(first, second, signed(v)),
-        3 => Effect::Mem(first, second, signed(v), width),
+        2 => Effect::AddImm(first, second, v.cast_signed()),
+        3 => Effect::Mem(first, second, v.cast_signed(), width),
         4 => Effect::Write(first),
         _ => Effect::None,
     }
 }
 
-fn operands_in(b: &[u8]) -> [Operand; 4]
-    requires { size ≤ length b.now }
-    ensures { result ≡ slots_in b.now }
+fn operands_in(record: &[u8; SIZE]) -> [Operand; 4]
+    ensures { result ≡ slots_in «record».now }
 {
-    [
-        operand_in(b, OPERANDS),
-        operand_in(b, OPERANDS + OPERAND_SIZE),
-        operand_in(b, OPERANDS + 2 * OPERAND_SIZE),
-        operand_in(b, OPERANDS + 3 * OPERAND_SIZE),
-    ]
+    std::array::from_fn(
+        |k|
+            requires { k < 4 }
+        { operand_in(record, OPERANDS + k * OPERAND_SIZE) },
+    )
 }
 
-fn operand_in(b: &[u8], at: usize) -> Operand
-    requires { at + 10 ≤ length b.now }
-    ensures { result ≡ slot_in at b.now }
+fn operand_in(record: &[u8; SIZE], at: usize) -> Operand
+    requires { at + 10 ≤ size }
+    ensures { result ≡ slot_in at «record».now }
 {
     Operand {
-        op: op_by(b[at], b[at + 1], buffers::get8(b, at + 2)),
+        op: op_by(record[at], record[at + 1], buffers::get8(record, at + 2)),
     }
 }
 
@@ -303,95 +271,23 @@ fn op_by(n: u8, r: u8, v: u64) -> Op
     match n {
         1 => Op::Reg(r),
         2 => Op::FReg(r),
-        3 => Op::Imm(signed(v)),
-        4 => Op::Mem(signed(v), r),
+        3 => Op::Imm(v.cast_signed()),
+        4 => Op::Mem(v.cast_signed(), r),
         5 => Op::Addr(v),
         6 => Op::Cop0(r),
         _ => Op::Reg(0),
     }
 }
 
-// The source's `as i64`.
-fn signed(v: u64) -> i64
-    ensures { result ≡ signed 64 v }
+// Is it that reading's record? The name needs no comparison: the mnemonic was found by it.
+fn is_record(i: &Insn, record: &[u8; SIZE]) -> bool
+    ensures { (result ≡ true) ↔ Holds i.now «record».now }
 {
-    if v < SIGN {
-        v as i64
-    } else {
-        !((u64::MAX - v) as i64)
-    }
+    head(i).is_at(record, 0) && effect(i.effect).is_at(record, EFFECT) && are_operands(i, record)
 }
 
-const SIGN: u64 = 0x8000_0000_0000_0000;
-
-// ── is it that reading's record? ──
-
-// The name needs no comparison: a mnemonic was found by it.
-fn is_record(d: Decoded, b: &[u8]) -> bool
-    requires { size ≤ length b.now }
-    ensures { (result ≡ true) ↔ Holds d.insn b.now }
+fn are_operands(i: &Insn, record: &[u8; SIZE]) -> bool
+    ensures { (result ≡ true) ↔ (operand_bytes i.now ≡ part 24 40 «record».now) }
 {
-    let i = d.insn;
-    i.mnemonic != names::NO_KIND && (is_head(d, b) && (is_effect(d, b) && are_operands(d, b)))
-}
-
-fn is_head(d: Decoded, b: &[u8]) -> bool
-    requires { size ≤ length b.now }
-    ensures { (result ≡ true) ↔ (head_bytes d.insn ≡ part 0 12 b.now) }
-{
-    let i = d.insn;
-    let flow = i.flow;
-    let target = i.target;
-    let t = reading::target_parts(target);
-    has_four(
-        b,
-        0,
-        0,
-        reading::flow_number(flow),
-        marks(i.delay_slot, target),
-        i.count,
-        value_of(t),
-    )
-}
-
-fn is_effect(d: Decoded, b: &[u8]) -> bool
-    requires { size ≤ length b.now }
-    ensures { (result ≡ true) ↔ (effect_bytes d.insn.effect ≡ part 12 12 b.now) }
-{
-    let i = d.insn;
-    let e = i.effect;
-    let p = reading::effect_parts(e);
-    has_four(b, EFFECT, p.number, p.first, p.second, p.size, value_of(p))
-}
-
-fn are_operands(d: Decoded, b: &[u8]) -> bool
-    requires { size ≤ length b.now }
-    ensures { (result ≡ true) ↔ (operand_bytes d.insn ≡ part 24 40 b.now) }
-{
-    is_operand(d, 0, b) && (is_operand(d, 1, b) && (is_operand(d, 2, b) && is_operand(d, 3, b)))
-}
-
-fn is_operand(d: Decoded, k: usize, b: &[u8]) -> bool
-    requires { (k < 4) × (size ≤ length b.now) }
-    ensures { (result ≡ true) ↔ (slot_bytes (slot_of d.insn k) ≡ part (24 + k * 10) 10 b.now) }
-{
-    let at = OPERANDS + k * OPERAND_SIZE;
-    let p = slot(d, k);
-    has_two(b, at, p.number, p.first, value_of(p))
-}
-
-// Are these four bytes and this number at place `at`?
-fn has_four(b: &[u8], at: usize, w: u8, x: u8, y: u8, z: u8, v: u64) -> bool
-    requires { at + 12 ≤ length b.now }
-    ensures { (result ≡ true) ↔ (w ∷ x ∷ y ∷ z ∷ low_bytes 8 v ≡ part at 12 b.now) }
-{
-    b[at] == w
-        && (b[at + 1] == x && (b[at + 2] == y && (b[at + 3] == z && buffers::get8(b, at + 4) == v)))
-}
-
-fn has_two(b: &[u8], at: usize, x: u8, y: u8, v: u64) -> bool
-    requires { at + 10 ≤ length b.now }
-    ensures { (result ≡ true) ↔ (x ∷ y ∷ low_bytes 8 v ≡ part at 10 b.now) }
-{
-    b[at] == x && (b[at + 1] == y && buffers::get8(b, at + 2) == v)
+    (0..i.ops.len()).all(|k| slot(i, k).is_at(record, OPERANDS + k * OPERAND_SIZE))
 }

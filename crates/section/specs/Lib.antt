@@ -1,2 +1,3 @@
 pub mod Section
 pub mod Theorems
+pub mod Private

@@ -14,20 +14,15 @@ const PAGE: usize = 4096;
 // The pieces of the listing, one after the other, until nothing is left.
 fn list(file: &[u8]) {
     let mut page = [b' '; PAGE];
-    let mut at = Cursor {
-        section: 0,
-        line: 0,
-    };
-    loop {
-        let p = listing::piece(file, at, &mut page);
-        let bytes = p.bytes;
-        if bytes == 0 {
+    let mut at = Cursor::default();
+    while let Ok(piece) = listing::piece(file, at, &mut page) {
+        if piece.bytes == 0 {
             return;
         }
-        if !io::write_all(OUTPUT, &page[..bytes]) {
+        if !io::write_all(OUTPUT, &page[..piece.bytes]) {
             return;
         }
-        at = p.next;
+        at = piece.next;
     }
 }
 

@@ -42,20 +42,11 @@ module _ (base : ℕ) (some : 0 < base) where
   unfolding numeral_of
   numeral_short k n h = simp length-append (omega (arith, last_short k 19 (n / base) h))
 
-pub decimal_most : (z : ℤ) → length (decimal_of z) ≤ 21
-unfolding decimal_of
-decimal_most (pos n) = omega (arith, numeral_most 10 n)
-decimal_most (negsuc n) = omega (arith, numeral_most 10 (suc n))
-
 pub decimal_short : (z : ℤ) → nat_abs z ≤ 2 ^ 63 → length (decimal_of z) ≤ 20
 unfolding decimal_of
 decimal_short (pos n) h = numeral_most 10 n
 -- nineteen digits hold how far it is from 0
 decimal_short (negsuc n) h = omega (arith, numeral_short 10 (omega arith) 18 (suc n) (omega arith))
-
-pub address_most : (a : ℕ) → length (address_of a) ≤ 22
-unfolding address_of
-address_most a = omega (arith, numeral_most 16 a)
 
 -- sixteen digits hold an address
 pub address_short : (a : ℕ) → a < 2 ^ 64 → length (address_of a) ≤ 18

@@ -2,34 +2,23 @@
 use mathlib.Core.Path.{◌≡◌, refl, ap}
 use mathlib.Core.Bool.{Bool, true, false, cond}
 use mathlib.Core.List.{List, [], ◌∷◌}
-use Prim.Native.Nat.{ℕ, suc, ◌<◌}
-use borrow.Author.Tests.{eq-eqb, ne_eqb}
+use Prim.Native.Nat.{ℕ}
 use lib.Dec.{eqb}
-use lib.ListN.{length, take, drop, get_or}
-use lib.Seq.{drop-cons}
+use lib.ListN.{length, take}
+use native.Mathlib.Omega.{arith}
+use Prim.Native.Nat.{◌+◌}
+use Rattle.std.specs.List.{position_or_len}
+use Rattle.std.proofs.lemmas.List.Recursion.{is_position_or_len}
 use Rattle.text.specs.Text.{before_zero}
 
-before_end : before_zero [] ≡ []
+-- its length is the place of the first zero
+pub name_is : (l : List ℕ) → length (before_zero l) ≡ position_or_len (λ b. eqb b 0) l
 unfolding before_zero
-before_end = refl
-
-before_zero_lem : (b : ℕ) (bs : List ℕ) → b ≡ 0 → before_zero (b ∷ bs) ≡ []
-unfolding before_zero
-before_zero_lem b bs e = rw (eq-eqb b 0 e)
-
-before_more : (b : ℕ) (bs : List ℕ) → (b ≡ 0 → ⊥) → before_zero (b ∷ bs) ≡ b ∷ before_zero bs
-unfolding before_zero
-before_more b bs h = rw (ne_eqb b 0 h)
-
--- at the place n of a name: the end, a zero, one letter more
-pub ends : (l : List ℕ) → l ≡ [] → length (before_zero l) ≡ 0
-ends l e = rw (e, before_end)
-
-pub stops : (n : ℕ) (l : List ℕ) → n < length l → get_or l n 0 ≡ 0 → length (before_zero (drop n l)) ≡ 0
-stops n l h e = rw (drop-cons l n 0 h, before_zero_lem (get_or l n 0) (drop (suc n) l) e)
-
-pub letter : (n : ℕ) (l : List ℕ) → n < length l → (get_or l n 0 ≡ 0 → ⊥) → length (before_zero (drop n l)) ≡ suc (length (before_zero (drop (suc n) l)))
-letter n l h e = rw (drop-cons l n 0 h, before_more (get_or l n 0) (drop (suc n) l) e)
+name_is l = is_position_or_len (λ l. length (before_zero l)) (λ b. eqb b 0) refl (λ b bs. more (eqb b 0) b bs) l
+  where
+    more : (t : Bool) (b : ℕ) (bs : List ℕ) → length (cond t [] (b ∷ before_zero bs)) ≡ cond t 0 (1 + length (before_zero bs))
+    more true b bs = refl
+    more false b bs = omega arith
 
 -- a name is the first bytes
 pub name_front : (l : List ℕ) → take (length (before_zero l)) l ≡ before_zero l

@@ -1,20 +1,22 @@
 // Numbers and names as text, into bytes that a caller lends, and hex digits read out of them. Depends on `buffers`.
 // Every function takes any place: the text is written where it has room, else nothing is; its length is the answer
 // either way. A number whose digits are not all there is 0.
+// Numbers are not printed by `write!`: std says which bytes it writes only where it answers Ok, and never that it does
+// (tried: an `unwrap` after it gets no proof), while `count` and its like state their bytes, and cannot fail.
 #![tactic(auto)]
 
-ghost use Rattle.std.specs.Prelude.{◌≡◌, ◌+◌, ◌-◌, ◌≤◌, ◌<◌, length, take, drop, nat_abs};
+ghost use Rattle.std.specs.Prelude.{◌≡◌, ◌≤◌, ◌<◌, ℕ, List, ◌∷◌, length, drop};
 ghost use Rattle.buffers.specs.Bytes.{placed};
 ghost use Rattle.text.specs.Text.{glyph_of, numeral_of, decimal_of, address_of, hex_of, before_zero};
-ghost use Rattle.text.specs.Read.{between, digit_of, hex_after, hex_at};
+ghost use Rattle.text.specs.Read.{digit_of, hex_after, hex_at};
+
+use std::marker::Model;
 
 const DECIMAL: u64 = 10;
 
 const HEX: u64 = 16;
 
-// The bytes that may stand before a numeral, and room for them and the longest one, 2^64 - 1 in decimal.
-const BEFORE: usize = 2;
-
+// Room for the longest numeral, 2^64 - 1 in decimal, and the two bytes that may stand before one.
 const ROOM: usize = 22;
 
 // ── numerals ──
@@ -24,31 +26,60 @@ fn glyph(d: u64) -> u8
     requires { d < 16 }
     ensures { result ≡ glyph_of d }
 {
-    if d < DECIMAL {
-        b'0' + d as u8
-    } else {
-        b'a' - 10 + d as u8
-    }
+    char::from_digit(d as u32, HEX as u32).unwrap() as u8
 }
 
-// The numeral of n, at the end of b; answers where it starts.
-fn spell(n: u64, base: u64, b: &mut [u8; ROOM]) -> usize
-    requires { (1 < base) × (base ≤ 16) × (length b.old ≡ 22) }
-    ensures { (2 ≤ result) × (result ≤ 22) × (length b.new ≡ 22) ×
-        (drop result b.new ≡ numeral_of base n) }
-{
-    let mut i = ROOM - 1;
-    let mut rest = n / base;
-    b[i] = glyph(n % base);
-    while 0 < rest {
-        if i == BEFORE {
-            break;
+// A numeral, and what is put before it: the bytes from `start` on, which are written from the last to the first.
+#[derive(Drop)]
+struct Numeral {
+    bytes: [u8; ROOM],
+    start: usize,
+}
+
+impl Model for Numeral {
+    ghost Value = { List ℕ };
+
+    ghost view = { λ n. drop n.start n.bytes };
+
+    ghost invariant = { λ n. n.start ≤ 22 };
+}
+
+impl Numeral {
+    // The numeral of n.
+    fn of(n: u64, base: u64) -> Numeral
+        requires { (10 ≤ base) × (base ≤ 16) }
+        ensures { result ≡ numeral_of base n }
+    {
+        let mut numeral = Numeral {
+            bytes: [0; ROOM],
+            start: ROOM,
+        };
+        numeral.push_front(glyph(n % base));
+        let mut rest = n / base;
+        while 0 < rest {
+            numeral.push_front(glyph(rest % base));
+            rest /= base;
         }
-        i -= 1;
-        b[i] = glyph(rest % base);
-        rest /= base;
+        numeral
     }
-    i
+
+    // Puts the byte before all others.
+    fn push_front(&mut self, byte: u8)
+        requires { length self.old < 22 }
+        ensures { self.new ≡ byte ∷ self.old }
+    {
+        self.start -= 1;
+        self.bytes[self.start] = byte;
+    }
+
+    // Copies the text to out from place `at` on; answers its length.
+    fn put(&self, out: &mut [u8], at: usize) -> usize
+        ensures value { result ≡ length self.now }
+        ensures out_after { out.new ≡ placed at self.now out.old }
+    {
+        buffers::put(&self.bytes[self.start..], out, at);
+        ROOM - self.start
+    }
 }
 
 // A number in decimal.
@@ -56,145 +87,112 @@ pub fn count(n: u64, out: &mut [u8], at: usize) -> usize
     ensures value { result ≡ length (numeral_of 10 n) }
     ensures out_after { out.new ≡ placed at (numeral_of 10 n) out.old }
 {
-    let mut b = [0u8; ROOM];
-    let start = spell(n, DECIMAL, &mut b);
-    buffers::put(&b[start..], out, at);
-    ROOM - start
-}
-
-// How far x is from 0.
-fn magnitude(x: i64) -> u64
-    ensures { result ≡ nat_abs x }
-{
-    if x < 0 {
-        let below = !x;
-        below as u64 + 1
-    } else {
-        x as u64
-    }
+    Numeral::of(n, DECIMAL).put(out, at)
 }
 
 // A signed number in decimal.
+#[tactic(auto, using(crate::proofs::Lengths::numeral_most), unfolding(crate::specs::Text::decimal_of))]
 pub fn decimal(x: i64, out: &mut [u8], at: usize) -> usize
     ensures value { result ≡ length (decimal_of x) }
     ensures out_after { out.new ≡ placed at (decimal_of x) out.old }
 {
-    let mut b = [0u8; ROOM];
-    let mut start = spell(magnitude(x), DECIMAL, &mut b);
+    let mut numeral = Numeral::of(x.unsigned_abs(), DECIMAL);
     if x < 0 {
-        start -= 1;
-        b[start] = b'-';
+        numeral.push_front(b'-');
     }
-    buffers::put(&b[start..], out, at);
-    ROOM - start
+    numeral.put(out, at)
 }
 
 // An address: 0x and lower-case hex without leading zeros.
+#[tactic(auto, using(crate::proofs::Lengths::numeral_most), unfolding(crate::specs::Text::address_of))]
 pub fn address(a: u64, out: &mut [u8], at: usize) -> usize
     ensures value { result ≡ length (address_of a) }
     ensures out_after { out.new ≡ placed at (address_of a) out.old }
 {
-    let mut b = [0u8; ROOM];
-    let start = spell(a, HEX, &mut b) - BEFORE;
-    b[start] = b'0';
-    b[start + 1] = b'x';
-    buffers::put(&b[start..], out, at);
-    ROOM - start
+    let mut numeral = Numeral::of(a, HEX);
+    numeral.push_front(b'x');
+    numeral.push_front(b'0');
+    numeral.put(out, at)
 }
 
 // ── digits in columns ──
 
-// The digits of 64 bits, and the column of the first one of 32 bits.
-const COLUMNS: usize = 16;
-
-const HALF: usize = 8;
-
-// The hex digits of n from column `from` of sixteen on.
-fn hex_digits(n: u64, from: usize) -> [u8; COLUMNS]
-    requires { from ≤ 16 }
-    ensures { drop from result ≡ hex_of (16 - from) n }
+// The hex digits of n in columns, the low digits where there are more. The loop counts: with `columns.iter_mut().rev()`
+// the proof did not close, since an invariant cannot speak of the columns while that borrow lasts.
+fn hex_digits<const COLUMNS: usize>(n: u64) -> [u8; COLUMNS]
+    ensures { result ≡ hex_of COLUMNS n }
 {
-    let mut b = [0u8; COLUMNS];
-    let mut i = COLUMNS;
+    let mut columns = [0u8; COLUMNS];
     let mut rest = n;
-    while from < i {
-        i -= 1;
-        b[i] = glyph(rest % HEX);
+    for i in (0..COLUMNS).rev() {
+        columns[i] = glyph(rest % HEX);
         rest /= HEX;
     }
-    b
+    columns
 }
+
+// Each takes a number of its own width, and so shows all of it; one with the count of columns as a parameter could cut.
 
 // Sixteen hex digits.
 pub fn hex16(n: u64, out: &mut [u8], at: usize)
     ensures { out.new ≡ placed at (hex_of 16 n) out.old }
 {
-    let b = hex_digits(n, 0);
-    buffers::put(&b, out, at);
+    buffers::put(&hex_digits::<16>(n), out, at);
 }
 
 // Eight hex digits.
 pub fn hex8(n: u32, out: &mut [u8], at: usize)
     ensures { out.new ≡ placed at (hex_of 8 n) out.old }
 {
-    let b = hex_digits(n as u64, HALF);
-    buffers::put(&b[HALF..], out, at);
+    buffers::put(&hex_digits::<8>(u64::from(n)), out, at);
 }
 
 // ── digits read from columns ──
 
 // The value of the digit a.
-const LETTER_A: u8 = 10;
+const LETTER_A: u64 = 10;
 
-// Is the byte one of those from `low` up to `high`?
-fn is_between(low: u8, byte: u8, high: u8) -> bool
-    ensures { result ≡ between low byte high }
-{
-    low <= byte && byte <= high
-}
+// At most so many digits are read: those of 64 bits.
+const DIGITS: usize = 16;
 
-// The value of a hex digit, and 0 for any other byte.
+// The value of a hex digit, and 0 for any other byte. Not by `to_digit`, which reads capital letters too: by `digit_of`
+// they are 0.
+#[tactic(auto, unfolding(crate::specs::Read::digit_of))]
 fn digit(byte: u8) -> u64
     ensures { result ≡ digit_of byte }
 {
-    if is_between(b'0', byte, b'9') {
-        return (byte - b'0') as u64;
+    match byte {
+        b'0'..=b'9' => u64::from(byte - b'0'),
+        b'a'..=b'f' => u64::from(byte - b'a') + LETTER_A,
+        _ => 0,
     }
-    if is_between(b'a', byte, b'f') {
-        return (byte - b'a' + LETTER_A) as u64;
-    }
-    0
 }
 
-// The number in columns that are all there.
-fn number(b: &[u8], at: usize, digits: usize) -> u64
-    requires { (digits ≤ 16) × (at + digits ≤ length b.now) }
-    ensures { result ≡ hex_after 0 (take digits (drop at b.now)) }
+// The number in columns. `from_str_radix` would need a text, and reads signs and capital letters in it.
+#[tactic(auto, using(crate::proofs::Read::digits))]
+fn number(columns: &[u8]) -> u64
+    requires { length columns.now ≤ 16 }
+    ensures { result ≡ hex_after 0 columns.now }
 {
-    let mut value: u64 = 0;
-    let mut i = 0;
-    while i < digits {
-        value = HEX * value + digit(b[at + i]);
-        i += 1;
+    let mut value = 0;
+    for &byte in columns {
+        value = HEX * value + digit(byte);
     }
     value
 }
 
 // The number whose hex digits are in this many columns from a place on; 0 if they are not all there, or if there are
-// more than sixteen.
+// more than sixteen: `hex_at`, which its clause names, has 0 there, and no `None`.
+#[tactic(auto, unfolding(crate::specs::Read::hex_at))]
 pub fn hex_in(b: &[u8], at: usize, digits: usize) -> u64
     ensures { result ≡ hex_at at digits b.now }
 {
-    if COLUMNS < digits {
+    if DIGITS < digits {
         return 0;
     }
-    if b.len() < digits {
-        return 0;
-    }
-    if b.len() - digits < at {
-        return 0;
-    }
-    number(b, at, digits)
+    b.get(at..)
+        .and_then(|rest| rest.get(..digits))
+        .map_or(0, number)
 }
 
 // ── names ──
@@ -203,17 +201,11 @@ pub fn hex_in(b: &[u8], at: usize, digits: usize) -> u64
 fn name_length(b: &[u8]) -> usize
     ensures { result ≡ length (before_zero b.now) }
 {
-    let mut n = 0;
-    while n < b.len() {
-        if b[n] == 0 {
-            break;
-        }
-        n += 1;
-    }
-    n
+    b.iter().position(|&byte| byte == 0).unwrap_or(b.len())
 }
 
 // A name that is padded with zeros, without them.
+#[tactic(auto, using(crate::proofs::Lengths::name_most, crate::proofs::Names::name_front))]
 pub fn name(b: &[u8], out: &mut [u8], at: usize) -> usize
     ensures value { result ≡ length (before_zero b.now) }
     ensures out_after { out.new ≡ placed at (before_zero b.now) out.old }

@@ -93,3 +93,9 @@ imm_small f h = omega (arith, h rd, h sa, h funct)
 pub index_small : (f : Fields) → Fit f → index f < 67108864
 unfolding index
 index_small f h = omega (arith, h rs, h rt, h rd, h sa, h funct)
+
+pub imm_fits : (w : ℕ) → imm (fields_of w) < 65536
+imm_fits w = imm_small (fields_of w) (fields_fit w)
+
+pub index_fits : (w : ℕ) → index (fields_of w) < 67108864
+index_fits w = index_small (fields_of w) (fields_fit w)

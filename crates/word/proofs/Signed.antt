@@ -1,9 +1,10 @@
--- Signed numbers: n bits as two's complement, and multiples of an immediate, 64 bits and a size as the code works them out; what fits
--- 64 bits.
-use Rattle.std.proofs.Common.{◌≡◌, ℕ, zero, suc, ◌+◌, ◌-◌, ◌*◌, ◌/◌, ◌%◌, ◌^◌, ◌<◌, ◌≤◌, Bool, true, false, cond, T, ltb, ℤ, pos, negsuc, ◌+ℤ◌, ◌-ℤ◌, ◌*ℤ◌, neg_ℤ, nat_abs, sym, refl, ap, ◌∙◌, subst, not-suc-le-zero, lt_of_le_of_lt, mul-le-mul_left, arith, to_z-of_z, w64, SFits, to_z, of_z, ltb-false, ltb-true, le-ltb, lt-ltb}
+-- Signed numbers: n bits as two's complement, and as std casts them; multiples of an immediate as the code works them
+-- out; a size; what fits 64 bits.
+use Rattle.std.proofs.Common.{◌≡◌, ℕ, zero, suc, ◌+◌, ◌-◌, ◌*◌, ◌/◌, ◌%◌, ◌^◌, ◌<◌, ◌≤◌, Bool, true, false, cond, ltb, ℤ, pos, negsuc, ◌+ℤ◌, ◌-ℤ◌, ◌*ℤ◌, neg_ℤ, sym, refl, ap, ◌∙◌, subst, lt_of_le_of_lt, mul-le-mul_left, arith, to_z-of_z, w64, SFits, to_z, of_z, ltb-false, ltb-true, le-ltb, lt-ltb}
 use lib.IntN.{sub_ℕ}
-use lib.Signed.{mag, lt_z, non_neg}
-use mir.Facts.{to_z_pos, to_z-neg}
+use lib.Signed.{mag}
+use mir.Syntax.{Width, w16, w32}
+use mir.Val.{bits, hbits}
 use Rattle.word.specs.Facts.{TwosComplement}
 use Rattle.word.specs.Numbers.{signed, modulo64, branch_to, jump_to, upper, size_of}
 
@@ -83,15 +84,6 @@ module _ (k u : ℕ) (m : k * 65536 < 2 ^ 63) (h : u < 65536) (z : ℤ) (e : z �
   pub product_held : to_z w64 (of_z w64 (pos k *ℤ to_z w64 (of_z w64 z))) ≡ pos k *ℤ signed 16 u
   product_held = to_z-of_z {w = w64} product_fits ∙ product
 
--- 65,536 times an immediate is the 32 bits with the immediate on top, as a signed number
-pub times_upper : (u : ℕ) → u < 65536 → pos 65536 *ℤ signed 16 u ≡ signed 32 (u * 65536)
-times_upper u h =
-    by_sign (λ z. pos 65536 *ℤ z ≡ signed 32 (u * 65536)) u h
-    (λ l. ap pos (omega arith) ∙ sym (signed_low 32 refl (u * 65536) (omega arith)))
-    (λ l.
-    neg_pos (65536 * suc (65535 - u)) (omega arith)
-    ∙ (ap negsuc (omega arith) ∙ sym (signed_high 32 refl (u * 65536) (omega arith) (omega arith))))
-
 -- ── modulo 2^64 ──
 
 -- a sum modulo 2^64, from the numbers modulo 2^64
@@ -106,17 +98,6 @@ add_modulo a (negsuc n) = go (ltb a (suc n)) refl
 pub branch_is : (va u : ℕ) → branch_to va u ≡ ((va + 4) % 2 ^ 64 + modulo64 (pos 4 *ℤ signed 16 u)) % 2 ^ 64
 unfolding branch_to
 branch_is va u = add_modulo (va + 4) (pos 4 *ℤ signed 16 u)
-
--- the 64 bits of a number that an i64 holds, as the code works them out
-pub bits_of_negative : (z : ℤ) → SFits w64 z → lt_z z (pos 0) ≡ true → (to_z w64 (2 ^ 64 - 1 - of_z w64 z) ≡ pos (mag z)) × (2 ^ 64 - 1 - mag z ≡ modulo64 z)
-bits_of_negative (pos n) f e = absurd (not-suc-le-zero (ltb-true n 0 e))
-bits_of_negative (negsuc n) f e =
-    let flipped : 2 ^ 64 - 1 - (2 ^ 64 - suc n) ≡ n = omega (arith, f.sfits) in
-    (ap (to_z w64) flipped ∙ to_z_pos w64 f.sfits, omega (arith, f.sfits))
-
-pub bits_of_positive : (z : ℤ) → SFits w64 z → lt_z z (pos 0) ≡ false → T (non_neg z) × (nat_abs z ≡ modulo64 z)
-bits_of_positive (pos n) f e = (tt, omega (arith, f.sfits))
-bits_of_positive (negsuc n) f e = let d : ◌≡◌ {A = Bool} true false = e in absurd (subst T d tt)
 
 -- ── the size of `ins` ──
 
@@ -149,29 +130,20 @@ sub_fits a b p q = record { sfits = lt_of_le_of_lt (mag_sub a b) (omega arith) }
 pub size_fits : (msb lsb : ℕ) → msb < 64 → lsb < 64 → SFits w64 (size_of msb lsb)
 size_fits msb lsb p q = rw (size_is msb lsb) (sub_fits (msb + 1) lsb (omega arith) (omega arith))
 
--- the same as the code works it out
-module _ (a b : ℕ) (p : a < 2 ^ 62) (q : b < 2 ^ 62) where
-  held_sub : to_z w64 a -ℤ to_z w64 b ≡ sub_ℕ a b
-  held_sub = rw (to_z_pos w64 {n = a} (omega arith), to_z_pos w64 {n = b} (omega arith)) (sub_is a b)
+-- bits as a signed number, at each width
+module _ (w : Width) (n : ℕ) (halves : 2 ^ n ≡ 2 ^ (n - 1) + 2 ^ (n - 1)) (size : 2 ^ bits w ≡ 2 ^ n) (half : 2 ^ hbits w ≡ 2 ^ (n - 1)) where
+  as_signed : (v : ℕ) → v < 2 ^ n → to_z w v ≡ signed n v
+  unfolding signed
+  as_signed v h = rw (size, half) (grind arith)
 
-  pub held_sub_fits : SFits w64 (to_z w64 a -ℤ to_z w64 b)
-  held_sub_fits = rw held_sub (sub_fits a b p q)
+pub i16_is : (v : ℕ) → v < 2 ^ 16 → to_z w16 v ≡ signed 16 v
+i16_is = as_signed w16 16 refl refl refl
 
-  pub sub_held : to_z w64 (of_z w64 (to_z w64 a -ℤ to_z w64 b)) ≡ sub_ℕ a b
-  sub_held = to_z-of_z {w = w64} held_sub_fits ∙ held_sub
+pub i32_is : (v : ℕ) → v < 2 ^ 32 → to_z w32 v ≡ signed 32 v
+i32_is = as_signed w32 32 refl refl refl
 
--- 64 bits as a signed number
 pub signed_is : (v : ℕ) → v < 2 ^ 64 → to_z w64 v ≡ signed 64 v
-signed_is v h = go (ltb v (2 ^ 63)) refl
-  where
-    go : (b : Bool) → ltb v (2 ^ 63) ≡ b → to_z w64 v ≡ signed 64 v
-    go true e =
-        let k : v < 2 ^ 63 = ltb-true v (2 ^ 63) e in
-        to_z_pos w64 k ∙ sym (signed_low 64 refl v k)
-    go false e =
-        let l : 2 ^ 63 ≤ v = ltb-false v (2 ^ 63) e in
-        let u : v ≡ 2 ^ 64 - suc (2 ^ 64 - (v + 1)) = omega arith in
-        ap (to_z w64) u ∙ to_z-neg w64 (2 ^ 64 - (v + 1)) (omega arith) ∙ sym (signed_high 64 refl v l h)
+signed_is = as_signed w64 64 refl refl refl
 
 -- and back from the 64 bits of one
 pub modulo_back : (z : ℤ) → SFits w64 z → signed 64 (modulo64 z) ≡ z

@@ -1,9 +1,9 @@
 // The fields of a word, and the numbers worked out of them: the `let`s at the head of the source's `decode_word`.
 // Depends on nothing but std.
-#![tactic(auto)]
+#![tactic(auto, unfolding(crate::specs::Word::fields_of))]
 
-ghost use Rattle.std.specs.Prelude.{◌≡◌, ◌*◌, ◌<◌, pos};
-ghost use Rattle.word.specs.Word.{fields_of, op, rs, rt, rd, sa, funct};
+ghost use Rattle.std.specs.Prelude.{◌≡◌, ◌+◌, ◌*◌, ◌<◌, ◌≤◌, pos};
+ghost use Rattle.word.specs.Word.{bits, fields_of, op, rs, rt, rd, sa, funct};
 ghost use Rattle.word.specs.Numbers.{imm, index, signed, modulo64, branch_to, jump_to, upper, size_of, little_endian};
 ghost use Rattle.word.specs.Numbers.{big_endian, word_in};
 
@@ -12,80 +12,90 @@ const IMMEDIATES: u32 = 0x1_0000;
 
 const INDEXES: u32 = 0x400_0000;
 
-// An immediate from here on has its top bit set: it is negative.
-const TOP_BIT: u32 = 0x8000;
+// The bits of an immediate, by which `lui` shifts it.
+const IMMEDIATE_BITS: u32 = 16;
 
 // A jump stays within a region of this many bytes.
 const REGION: u64 = 0x1000_0000;
 
-// The number of values of 16 bits, by which `lui` multiplies.
-const TWO_TO_16: i64 = 0x1_0000;
+// The field in bits LAST..FIRST of a word, as the manual draws it.
+fn field<const LAST: u32, const FIRST: u32>(w: u32) -> u8
+    requires { (FIRST ≤ LAST) × (LAST < 32) × (LAST < FIRST + 8) }
+    ensures { result ≡ bits LAST FIRST w }
+{
+    ((w >> FIRST) % (1 << (LAST + 1 - FIRST))) as u8
+}
 
-// -1 as 64 bits.
-const ALL_ONES: u64 = 0xffff_ffff_ffff_ffff;
+// The six fields have the manual's names, each with its own clause; what they share is in `field`.
 
 pub fn op(w: u32) -> u8
     ensures { result ≡ fields_of w op }
 {
-    (w >> 26) as u8
+    field::<31, 26>(w)
 }
 
 pub fn rs(w: u32) -> u8
     ensures { result ≡ fields_of w rs }
 {
-    ((w >> 21) % 32) as u8
+    field::<25, 21>(w)
 }
 
 pub fn rt(w: u32) -> u8
     ensures { result ≡ fields_of w rt }
 {
-    ((w >> 16) % 32) as u8
+    field::<20, 16>(w)
 }
 
 pub fn rd(w: u32) -> u8
     ensures { result ≡ fields_of w rd }
 {
-    ((w >> 11) % 32) as u8
+    field::<15, 11>(w)
 }
 
 pub fn sa(w: u32) -> u8
     ensures { result ≡ fields_of w sa }
 {
-    ((w >> 6) % 32) as u8
+    field::<10, 6>(w)
 }
 
 pub fn funct(w: u32) -> u8
     ensures { result ≡ fields_of w funct }
 {
-    (w % 64) as u8
+    field::<5, 0>(w)
 }
 
 // A field as a signed number: the source's `sa as i64`.
 pub fn number(x: u8) -> i64
     ensures { result ≡ pos x }
 {
-    x as i64
+    i64::from(x)
+}
+
+// The immediate, the low sixteen bits: the source's `as u16`.
+#[tactic(auto, using(crate::proofs::Fields::imm_low))]
+fn immediate(w: u32) -> u16
+    ensures { result ≡ imm (fields_of w) }
+{
+    (w % IMMEDIATES) as u16
 }
 
 // The immediate as a number from 0 on.
 pub fn uimm(w: u32) -> i64
     ensures { result ≡ pos (imm (fields_of w)) }
 {
-    (w % IMMEDIATES) as i64
+    i64::from(immediate(w))
 }
 
 // The immediate as a signed number: the source's `as u16 as i16 as i64`.
+#[tactic(auto, using(crate::proofs::Signed::i16_is, crate::proofs::Fields::imm_fits))]
 pub fn simm(w: u32) -> i64
     ensures { result ≡ signed 16 (imm (fields_of w)) }
 {
-    let u = w % IMMEDIATES;
-    if u < TOP_BIT {
-        return u as i64;
-    }
-    (u as i64) - TWO_TO_16
+    i64::from(immediate(w).cast_signed())
 }
 
 // The 26-bit index of `j` and `jal`.
+#[tactic(auto, using(crate::proofs::Fields::index_low))]
 fn jump_index(w: u32) -> u32
     ensures { result ≡ index (fields_of w) }
 {
@@ -96,11 +106,7 @@ fn jump_index(w: u32) -> u32
 pub fn twos_complement(x: i64) -> u64
     ensures { result ≡ modulo64 x }
 {
-    if x < 0 {
-        let below = !x;
-        return ALL_ONES - (below as u64);
-    }
-    x as u64
+    x.cast_unsigned()
 }
 
 // Where a branch at va goes.
@@ -108,26 +114,29 @@ pub fn branch_target(w: u32, va: u64) -> u64
     ensures { result ≡ branch_to va (imm (fields_of w)) }
 {
     let offset = 4 * simm(w);
-    let next = std::num::wrapping_add_u64(va, 4);
-    std::num::wrapping_add_u64(next, twos_complement(offset))
+    let next = va.wrapping_add(4);
+    next.wrapping_add(twos_complement(offset))
 }
 
 // Where a jump at va goes: its upper bits are those of the address after it, not of its own.
+#[tactic(auto, using(crate::proofs::Fields::index_fits), unfolding(crate::specs::Numbers::jump_to))]
 pub fn jump_target(w: u32, va: u64) -> u64
     ensures { result ≡ jump_to va (index (fields_of w)) }
 {
-    let next = std::num::wrapping_add_u64(va, 4);
-    next / REGION * REGION + 4 * (jump_index(w) as u64)
+    let next = va.wrapping_add(4);
+    next / REGION * REGION + 4 * u64::from(jump_index(w))
 }
 
 // The value of `lui`, the source's `(uimm << 16) as i32 as i64`: 0x7fff0000 down to -0x80000000.
+#[tactic(auto, using(crate::proofs::Signed::i32_is, crate::proofs::Fields::imm_fits))]
 fn lui(w: u32) -> i64
     ensures { result ≡ signed 32 (imm (fields_of w) * 65536) }
 {
-    TWO_TO_16 * simm(w)
+    i64::from((u32::from(immediate(w)) << IMMEDIATE_BITS).cast_signed())
 }
 
 // What `lui` leaves in its register: the 64 bits of that value.
+#[tactic(auto, unfolding(crate::specs::Numbers::upper))]
 pub fn lui_value(w: u32) -> u64
     ensures { result ≡ upper (imm (fields_of w)) }
 {
@@ -135,31 +144,25 @@ pub fn lui_value(w: u32) -> u64
 }
 
 // The size of `ins`: 32 down to -30.
+#[tactic(auto, unfolding(crate::specs::Numbers::size_of))]
 pub fn ins_size(w: u32) -> i64
     ensures { result ≡ size_of (fields_of w rd) (fields_of w sa) }
 {
-    let last = (w >> 11) % 32;
-    let first = (w >> 6) % 32;
-    ((last + 1) as i64) - (first as i64)
+    number(rd(w)) - number(sa(w)) + 1
 }
 
-// A byte as a number of 32 bits.
-fn widened(x: u8) -> u32
-    ensures { (result ≡ x) × (result < 256) }
-{
-    x as u32
-}
+// Both orders are public, each with the number that it gives in its own clause; `from_bytes` chooses.
 
 pub fn from_le_bytes(b: [u8; 4]) -> u32
     ensures { result ≡ little_endian b }
 {
-    widened(b[0]) + widened(b[1]) * 0x100 + widened(b[2]) * 0x1_0000 + widened(b[3]) * 0x100_0000
+    u32::from_le_bytes(b)
 }
 
 pub fn from_be_bytes(b: [u8; 4]) -> u32
     ensures { result ≡ big_endian b }
 {
-    widened(b[3]) + widened(b[2]) * 0x100 + widened(b[1]) * 0x1_0000 + widened(b[0]) * 0x100_0000
+    u32::from_be_bytes(b)
 }
 
 // The word that four bytes are, in the order that the flag says.

@@ -1,9 +1,5 @@
-use Rattle.std.proofs.Common.{◌-◌}
 use Rattle.body.proofs.Words.{Counting}
 use Rattle.body.proofs.refusals.Given as goal
 
 abbrev pub invariant-loop-n : goal.invariant-loop-n
 invariant-loop-n l = Counting l.v l.body l.n l.found
-
-abbrev pub decreases-loop-n : goal.decreases-loop-n
-decreases-loop-n l = l.words - l.n

@@ -2,17 +2,19 @@
 use Rattle.std.specs.Prelude.{ℕ, ◌≡◌, Bool, List, [], ◌∷◌}
 use Rattle.word.specs.Word.{Field, fields_of, op, rs, funct}
 use Rattle.classes.specs.Decoded.{decoded_of}
+use Rattle.refusal.specs.declared.Refusal.{Refusal}
+use Rattle.reading.specs.Reading.{answer_of}
 use Rattle.forms.specs.declared.Shape.{Shape}
 use Rattle.forms.specs.Read.{read_by}
 
 -- ── answers ──
 
 -- the shape of the word under a width flag: read by it, the word has its answer at every address
-pub record Is (s : Shape) (w : ℕ) (wide : Bool) : Type 0 where
-  pub reads : (va : ℕ) → read_by s w va ≡ decoded_of w va wide
+pub record Is (s : Shape Refusal) (w : ℕ) (wide : Bool) : Type 0 where
+  pub reads : (va : ℕ) → answer_of (read_by s w va) ≡ decoded_of w va wide
 
 -- under each
-abbrev pub Each : Shape → ℕ → Type 0
+abbrev pub Each : Shape Refusal → ℕ → Type 0
 Each s w = (wide : Bool) → Is s w wide
 
 -- ── words ──
@@ -36,7 +38,7 @@ abbrev pub Handed : Field → ℕ → List (List ℕ) → ℕ → Type 0
 Handed x k vss w = (fields_of w x ≡ k) × Passed (fields_of w x) vss
 
 -- the shape of every such word
-abbrev pub EachHanded : Shape → ℕ → List (List ℕ) → Type 0
+abbrev pub EachHanded : Shape Refusal → ℕ → List (List ℕ) → Type 0
 EachHanded s k vss = (w : ℕ) → Handed op k vss w → Each s w
 
 -- ── the arms by op ──

@@ -1,9 +1,8 @@
 -- What the encoder's private functions answer.
-use Rattle.std.specs.Prelude.{◌≡◌, ℕ, zero, suc, ◌+◌, ◌*◌, ◌^◌, ◌≤◌, Bool, List, ℤ}
+use Rattle.std.specs.Prelude.{◌≡◌, ℕ, ◌+◌, ◌*◌, ◌^◌, ◌≤◌, Bool, List, ℤ}
 use Rattle.std.proofs.Math.Option.{some}
 use Rattle.word.specs.Word.{word}
 use Rattle.reading.specs.declared.Op.{Op}
-use Rattle.reading.specs.declared.Op.TheVariants.{Reg}
 use Rattle.reading.specs.declared.Insn.{Insn}
 use Rattle.classes.specs.Row.{Form, link, Row}
 use Rattle.classes.specs.Table as form
@@ -11,60 +10,53 @@ use Rattle.classes.specs.Table.{table}
 use Rattle.inverse.specs.Private.Fill.{filled}
 use Rattle.inverse.specs.Private.Candidate.{base, pick, first, Tries}
 use Rattle.encode.specs.declared.stem.Stem.{Stem}
-use Rattle.encode.specs.declared.stem.Stem.TheVariants as stem
+use Rattle.encode.specs.declared.stem.Form.{Form as StemForm}
+use Rattle.encode.specs.declared.stem.Form.TheVariants as stem
+
+-- what is put in, in the table's words
+abbrev pub form_of : StemForm → Form
+form_of stem.NoOperands = form.no_operands
+form_of stem.OneRs = form.one_rs
+form_of stem.OneRd = form.one_rd
+form_of stem.RdRs = form.rd_rs
+form_of stem.RdRt = form.rd_rt
+form_of stem.RsRt = form.rs_rt
+form_of stem.RdRsRt = form.rd_rs_rt
+form_of stem.RdRtRs = form.rd_rt_rs
+form_of stem.RdRtSa = form.rd_rt_sa
+form_of stem.RtCop0 = form.rt_cop0
+form_of stem.FdFs = form.fd_fs
+form_of stem.FdFsFt = form.fd_fs_ft
+form_of stem.Link = link
+form_of stem.InstrIndex = form.instr_index
+form_of stem.Offset = form.offset
+form_of stem.RsOffset = form.rs_offset
+form_of stem.RsRtOffset = form.rs_rt_offset
+form_of stem.RtImm = form.rt_imm
+form_of stem.RtRsImm = form.rt_rs_imm
+form_of stem.RtBase = form.rt_base
+form_of stem.ExtPosSize = form.ext_pos_size
+form_of stem.InsPosSize = form.ins_pos_size
 
 -- the word with nothing put in, and what is put in
-pub record Plan : Type 0 where
-  pub least : ℕ
-  pub shape : Form
+abbrev pub least_of : Stem → ℕ
+least_of s = s.1
 
-abbrev plan : ℕ → Form → Plan
-plan w φ = record { least = w; shape = φ }
-
-abbrev pub plan_of : Stem → Plan
-plan_of (stem.NoOperands w) = plan w form.no_operands
-plan_of (stem.OneRs w) = plan w form.one_rs
-plan_of (stem.OneRd w) = plan w form.one_rd
-plan_of (stem.RdRs w) = plan w form.rd_rs
-plan_of (stem.RdRt w) = plan w form.rd_rt
-plan_of (stem.RsRt w) = plan w form.rs_rt
-plan_of (stem.RdRsRt w) = plan w form.rd_rs_rt
-plan_of (stem.RdRtRs w) = plan w form.rd_rt_rs
-plan_of (stem.RdRtSa w) = plan w form.rd_rt_sa
-plan_of (stem.RtCop0 w) = plan w form.rt_cop0
-plan_of (stem.FdFs w) = plan w form.fd_fs
-plan_of (stem.FdFsFt w) = plan w form.fd_fs_ft
-plan_of (stem.Link w) = plan w link
-plan_of (stem.InstrIndex w) = plan w form.instr_index
-plan_of (stem.Offset w) = plan w form.offset
-plan_of (stem.RsOffset w) = plan w form.rs_offset
-plan_of (stem.RsRtOffset w) = plan w form.rs_rt_offset
-plan_of (stem.RtImm w) = plan w form.rt_imm
-plan_of (stem.RtRsImm w) = plan w form.rt_rs_imm
-plan_of (stem.RtBase w) = plan w form.rt_base
-plan_of (stem.ExtPosSize w) = plan w form.ext_pos_size
-plan_of (stem.InsPosSize w) = plan w form.ins_pos_size
-
--- four operands by their places
-abbrev pub four : Op → Op → Op → Op → ℕ → Op
-four a b c d zero = a
-four a b c d (suc zero) = b
-four a b c d (suc (suc zero)) = c
-four a b c d (suc (suc (suc zero))) = d
-four a b c d (suc (suc (suc (suc n)))) = Reg 0
+abbrev pub shape_of : Stem → Form
+shape_of s = form_of s.0
 
 -- with the operands put in
 abbrev pub word_by : Stem → ℕ → ℕ → (ℕ → Op) → ℕ
-word_by s va n o = (plan_of s).least + filled (plan_of s).shape va n o
+word_by s va n o = least_of s + filled (shape_of s) va n o
 
 -- the row's own words are made so
 pub record Serves (s : Stem) (h : Row) : Type 0 where
-  pub least : (plan_of s).least ≡ word (base h)
-  pub shape : (va n : ℕ) (o : ℕ → Op) → filled (plan_of s).shape va n o ≡ filled h.form va n o
+  pub least : least_of s ≡ word (base h)
+  pub shape : (va n : ℕ) (o : ℕ → Op) → filled (shape_of s) va n o ≡ filled h.form va n o
 
 -- there is room below 2^32 for the fields below op
 abbrev pub Roomy : Stem → Type 0
-Roomy s = (plan_of s).least ≤ 63 * 2 ^ 26
+Roomy s = least_of s ≤ 63 * 2 ^ 26
 
 -- in these tables the mnemonic's first row, if it has one, under each width flag
 pub record IsIn (t : Bool → List Row) (s : Stem) (k : ℕ) : Type 0 where

@@ -1,50 +1,55 @@
 -- `line::print` meets its contract: no line, no room, and a line that fits.
-use mathlib.Core.Path.{◌≡◌, refl, sym, ◌∙◌}
-use mathlib.Core.Bool.{true, false}
-use Prim.Native.Nat.{◌≤◌}
-use native.Mathlib.Omega.{arith}
-use lib.ListN.{length}
+use Rattle.std.proofs.Common.{◌≡◌, ◌≤◌, true, length, sym, refl, ap, ◌∙◌, arith, rules}
+use lib.Seq.{length-take-le}
 use Rattle.buffers.proofs.Laws.{first_at, at_start}
-use Rattle.buffers.proofs.Writes.{front, kept}
 use Rattle.line.specs.Line.{plain, line_of, printable}
-use Rattle.line.proofs.Answers.{answer, no_line, no_room, fits, never}
+use Rattle.line.proofs.Answers.{few, answer, no_line, no_room, fits}
 use Rattle.line.proofs.print.Goals as goal
+use Rattle.line.proofs.print.Goals.{After-written-line}
 
-pub returns-then-not-printable : goal.returns-then-not-printable
-returns-then-not-printable c =
-    let p : printable c.args.i ≡ false = sym c.printable.ensures ∙ c.if-not-printable.true in
-    let a = no_line plain c.args.i (length c.args.out.now) p in
-    record { value = answer a refl; out_after = rw a.bytes; number_value = λ q h. absurd (never q p) }
+pub returns-then-not-printable-clause-value : goal.returns-then-not-printable-clause-value
+returns-then-not-printable-clause-value c =
+    answer (no_line plain c.args.i (length c.args.out.now) (sym c.printable.ensures ∙ c.if-not-printable.true)) refl
 
-pub fill-n-requires : goal.fill-n-requires
-fill-n-requires c = sym c.printable.ensures ∙ c.if-not-printable.false
+pub returns-then-not-printable-clause-out_after : goal.returns-then-not-printable-clause-out_after
+returns-then-not-printable-clause-out_after c =
+    rw (no_line plain c.args.i (length c.args.out.now) (sym c.printable.ensures ∙ c.if-not-printable.true)).bytes
 
-pub returns-then-out-n : goal.returns-then-out-n
-returns-then-out-n c =
-    let f = c.fill-n.ensures in
-    let p : printable c.args.i ≡ true = sym c.printable.ensures ∙ c.if-not-printable.false in
-    let a = no_room plain c.args.i (length c.args.out.now) p (omega (arith, f.after, c.if-out-n.true)) in
-    record {
-      value = answer a refl;
-      out_after = rw a.bytes;
-      number_value = λ q h. absurd (omega (arith, f.short, c.if-out-n.true, h));
-    }
+pub written-line-requires : goal.written-line-requires
+written-line-requires c = few c.args.i (sym c.printable.ensures ∙ c.if-not-printable.false)
 
-pub slice_bounds-line-end : goal.slice_bounds-line-end
-slice_bounds-line-end c =
-    let f = c.fill-n.ensures in
-    omega (arith, f.short, kept f (omega (arith, f.short, f.after)))
+-- a line was written, and this long
+module _ (w : After-written-line) where
+  has : printable w.args.i ≡ true
+  has = sym w.printable.ensures ∙ w.if-not-printable.false
 
-pub slice_bounds-put-end : goal.slice_bounds-put-end
-slice_bounds-put-end c = let f = c.fill-n.ensures in rw (front f) (omega (arith, f.after))
+  long : w.written-line.result.end ≡ length (line_of plain w.args.i)
+  long =
+      let d = w.written-line.result in
+      let size : length d.bytes ≡ 120 = search rules in
+      sym (length-take-le d.end d.bytes (omega (arith, size, w.written-line.ensures.1)))
+      ∙ ap length w.written-line.ensures.0
 
-pub returns : goal.returns
-returns c =
-    let f = c.fill-n.ensures in
-    let p : printable c.args.i ≡ true = sym c.printable.ensures ∙ c.if-not-printable.false in
+pub returns-then-out-line-clause-value : goal.returns-then-out-line-clause-value
+returns-then-out-line-clause-value c =
+    let w = (goal.at.returns-then-out-line-clause-value c).After-written-line in
+    answer (no_room plain c.args.i (length c.args.out.now) (has w) (omega (arith, long w, c.if-out-line.true))) refl
+
+pub returns-then-out-line-clause-out_after : goal.returns-then-out-line-clause-out_after
+returns-then-out-line-clause-out_after c =
+    let w = (goal.at.returns-then-out-line-clause-out_after c).After-written-line in
+    rw (no_room plain c.args.i (length c.args.out.now) (has w) (omega (arith, long w, c.if-out-line.true))).bytes
+
+pub returns-clause-value : goal.returns-clause-value
+returns-clause-value c =
+    let w = (goal.at.returns-clause-value c).After-written-line in
+    answer (fits plain c.args.i (length c.args.out.now) (has w) (omega (arith, long w, c.if-out-line.false))) (long w)
+
+pub returns-clause-out_after : goal.returns-clause-out_after
+returns-clause-out_after c =
+    let w = (goal.at.returns-clause-out_after c).After-written-line in
     let d = c.args.out.now in
     let l = line_of plain c.args.i in
-    let h : length l ≤ length d = omega (arith, f.after, c.if-out-n.false) in
-    let a = fits plain c.args.i (length d) p h in
-    let bytes = first_at 0 l d (omega arith) (front f) c.put.ensures ∙ at_start l d in
-    record { value = answer a (omega (arith, f.after)); out_after = rw a.bytes bytes; number_value = λ q k. refl }
+    let room : length l ≤ length d = omega (arith, long w, c.if-out-line.false) in
+    let a = fits plain c.args.i (length d) (has w) room in
+    rw a.bytes (first_at 0 l d (omega (arith, room)) c.written-line.ensures.0 c.put.ensures ∙ at_start l d)

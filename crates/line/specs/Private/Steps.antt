@@ -1,7 +1,16 @@
 -- What the private functions answer.
-use Rattle.std.specs.Prelude.{ℕ, cond, List, eqb}
-use Rattle.text.specs.Text.{text_of}
+use Rattle.std.specs.Prelude.{ℕ, ◌+◌, ◌≤◌, ◌≡◌, List, ◌++◌, take}
+use Rattle.line.specs.declared.Draft.{Draft}
 
--- what stands before operand k
-abbrev pub before : ℕ → List ℕ
-before k = cond (eqb k 0) (text_of " ") (text_of ", ")
+-- a number of 64 bits has at most as many bytes as -9223372036854775808
+abbrev pub longest_number : ℕ
+longest_number = 20
+
+-- what is written so far
+abbrev pub text_in : Draft → List ℕ
+text_in d = take d.end d.bytes
+
+-- l, of at most `most` bytes, was added at its end
+pub record Added (most : ℕ) (l : List ℕ) (d d' : Draft) : Type 0 where
+  pub text : text_in d' ≡ text_in d ++ l
+  pub short : d'.end ≤ d.end + most

@@ -1,6 +1,7 @@
 -- What the private functions answer.
-use Rattle.std.specs.Prelude.{ℕ, ◌-◌, ◌≡◌, List, length}
+use Rattle.std.specs.Prelude.{ℕ, ◌-◌, ◌≡◌, List, [], ◌∷◌, ◌++◌, length}
 use Rattle.buffers.specs.Bytes.{over, whole}
+use Rattle.text.specs.Text.{newline, text_of, numeral_of}
 use Rattle.pages.specs.Lines.{lines_from, fitting}
 use Rattle.listing.specs.Swept.{word_count, refused_count, sum_from}
 use Rattle.listing.specs.Piece.{line_at, lines_in}
@@ -8,6 +9,10 @@ use Rattle.listing.specs.Piece.{line_at, lines_in}
 -- a number has at most this many
 abbrev pub digits : ℕ
 digits = 20
+
+-- `file refused` and the number
+abbrev pub refused_with : ℕ → List ℕ
+refused_with number = text_of "file refused " ++ numeral_of 10 number ++ (newline ∷ [])
 
 -- the counts of the first n sections
 pub record Totals (f : List ℕ) (n words refused : ℕ) : Type 0 where

@@ -1,68 +1,79 @@
-use mathlib.Core.Path.{refl}
-use native.Mathlib.Omega.{arith}
+use Rattle.std.proofs.Common.{◌<◌, ◌+◌, ◌-◌, ◌≡◌, ◌∙◌, length, arith}
+use borrow.Rule.Slice.PartMut.{put_mid}
 use Rattle.line.specs.Line.{plain}
+use Rattle.body.specs.Body.{words_in}
 use Rattle.pages.specs.Page.{word_line, page_words, page_bytes}
 use Rattle.pages.proofs.Loop.{Ends, start, went, stopped, all}
 use Rattle.pages.proofs.Pieces.{line_some}
 use Rattle.pages.proofs.lines.Goals as goal
-use Rattle.pages.proofs.lines.Goals.{Left-loop-k, else-loop-k-test, then-loop-k-test+then-size-eq0}
-
--- where the two ways out meet: the words ended, or a line had no room
-ended : (c : Left-loop-k) →
-    Ends (word_line plain c.args.v c.args.body.now) c.args.n c.args.place c.count-words.result c.args.out.now
-    c.loop-k-test.out c.loop-k.k c.loop-k.at
-ended c =
-    let l = c.loop-k in
-    let a = c.args in
-    let line = word_line plain a.v a.body.now in
-    let words = c.count-words.result in
-    elim c.loop-k-test.branch [
-      | else-loop-k-test w ↦ rw w.out-is (all line a.n a.place words a.out.now l.out l.k l.at l.invariant w.loop-k-test.false)
-      | then-loop-k-test+then-size-eq0 w ↦ rw w.out-is
-          (stopped line a.n a.place words a.out.now l.out l.k l.at l.invariant w.loop-k-test.true w.put_line-size.result
-          w.put_line-size.new.out w.put_line-size.ensures.value w.put_line-size.ensures.out_after
-          (line_some plain a.v a.body.now l.k) w.if-size-eq0.true)
-    ]
+use Rattle.pages.proofs.lines.Goals.{After-loop-k, Then-size-eq0}
 
 pub loop-k-init : goal.loop-k-init
 loop-k-init c =
     let a = c.args in
-    start (word_line plain a.v a.body.now) a.n a.place c.count-words.result a.out.now
-    (omega (arith, c.count-words.ensures, c.requires.0)) c.requires.1
+    let b = a.body.now in
+    let line = word_line plain a.v b in
+    let e : a.place + 0 ≡ a.place = omega arith in
+    (omega arith, rw e (start line a.n a.place (words_in b) a.out.now (omega (arith, c.requires.0)) c.requires.1))
 
-pub slice_bounds-put_line-start : goal.slice_bounds-put_line-start
-slice_bounds-put_line-start c = let i = c.loop-k.invariant in omega (arith, i.fits, i.size)
-
-pub slice_bounds-put_line-end : goal.slice_bounds-put_line-end
-slice_bounds-put_line-end c = let i = c.loop-k.invariant in omega (arith, i.fits, i.size)
-
--- a line went in
 pub loop-k-preserved : goal.loop-k-preserved
 loop-k-preserved c =
     let a = c.args in
+    let b = a.body.now in
     let l = c.loop-k in
-    went (word_line plain a.v a.body.now) a.n a.place c.count-words.result a.out.now
-    l.out l.k l.at l.invariant c.loop-k-test.true c.put_line-size.result c.put_line-size.new.out c.put_line-size.ensures.value
-    c.put_line-size.ensures.out_after c.if-size-eq0.false
+    let p = c.put_line-size in
+    let t = l.invariant.1 in
+    let e : a.place + (l.page.bytes + p.result) ≡ a.place + l.page.bytes + p.result = omega arith in
+    let h : l.k < words_in b = omega (arith, c.count-k-end.ensures, c.loop-k-test.true, l.auto.k-end) in (
+      omega (arith, l.invariant.0, t.low),
+      rw e
+          (went (word_line plain a.v b) a.n a.place (words_in b) a.out.now l.out l.k (a.place + l.page.bytes) t h
+          p.result p.new.out p.ensures.value p.ensures.out_after c.if-size-eq0.false),
+    )
 
-pub overflow_add-at : goal.overflow_add-at
-overflow_add-at c = omega (arith, (loop-k-preserved c).fits)
+-- the two ways out: the words ended, or a line had no room
 
-pub overflow_sub-result : goal.overflow_sub-result
-overflow_sub-result c = omega (arith, c.loop-k.invariant.low)
+ran_out : (c : After-loop-k) →
+    let a = c.args in
+    Ends (word_line plain a.v a.body.now) a.n a.place (words_in a.body.now) a.out.now c.loop-k.out c.loop-k.k
+    (a.place + c.loop-k.page.bytes)
+ran_out c =
+    let a = c.args in
+    let l = c.loop-k in
+    all (word_line plain a.v a.body.now) a.n a.place (words_in a.body.now) a.out.now l.out l.k (a.place + l.page.bytes)
+    l.invariant.1 (omega (arith, c.count-k-end.ensures, c.loop-k-test.false))
 
-pub overflow_sub-result-2 : goal.overflow_sub-result-2
-overflow_sub-result-2 c = omega (arith, c.loop-k.invariant.after)
+full : (c : Then-size-eq0) →
+    let a = c.args in
+    let l = c.loop-k in
+    let at = a.place + l.page.bytes in
+    Ends (word_line plain a.v a.body.now) a.n a.place (words_in a.body.now) a.out.now
+    (put_mid at (length l.out - at) l.out c.put_line-size.new.out) l.k at
+full c =
+    let a = c.args in
+    let b = a.body.now in
+    let l = c.loop-k in
+    let p = c.put_line-size in
+    let h : l.k < words_in b = omega (arith, c.count-k-end.ensures, c.loop-k-test.true) in
+    stopped (word_line plain a.v b) a.n a.place (words_in b) a.out.now l.out l.k (a.place + l.page.bytes) l.invariant.1
+    h p.result p.new.out p.ensures.value p.ensures.out_after (line_some plain a.v b l.k) c.if-size-eq0.true
 
-pub shape_of-out : goal.shape_of-out
-shape_of-out c = (ended c).size
-
-pub returns : goal.returns
+pub returns-after-loop-k-clause-value : goal.returns-after-loop-k-clause-value
 unfolding page_words page_bytes
-returns c =
-    let r = ended c in
-    let words = c.count-words.ensures in
-    record {
-      number_value = (refl, rw words at r.words, rw words at r.bytes);
-      out_after = rw words at r.left;
-    }
+returns-after-loop-k-clause-value c =
+    let e = ran_out c in
+    (c.loop-k.invariant.0 ∙ e.words, omega (arith, e.bytes))
+
+pub returns-after-loop-k-clause-out_after : goal.returns-after-loop-k-clause-out_after
+unfolding page_words page_bytes
+returns-after-loop-k-clause-out_after c = (ran_out c).left
+
+pub returns-then-size-eq0-clause-value : goal.returns-then-size-eq0-clause-value
+unfolding page_words page_bytes
+returns-then-size-eq0-clause-value c =
+    let e = full c in
+    (c.loop-k.invariant.0 ∙ e.words, omega (arith, e.bytes))
+
+pub returns-then-size-eq0-clause-out_after : goal.returns-then-size-eq0-clause-out_after
+unfolding page_words page_bytes
+returns-then-size-eq0-clause-out_after c = (full c).left

@@ -1,0 +1,11 @@
+use Rattle.std.proofs.Common.{to_z-of_z}
+use Rattle.text.specs.Text.{text_of, letters, letter}
+use Rattle.line.specs.Line.{op_text}
+use Rattle.line.proofs.Drafts.{after}
+use Rattle.line.proofs.Draft.push_memory.Goals as goal
+
+pub returns : goal.returns
+unfolding op_text text_of letters letter
+returns c =
+    let signed = rw (to_z-of_z c.ranges.offset) at c.push_signed.ensures in
+    after (after (after signed c.push_bytes.ensures) c.push_register.ensures) c.push_bytes-2.ensures

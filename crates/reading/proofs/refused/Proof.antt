@@ -1,6 +1,0 @@
-use borrow.Author.Rules.{rules}
-use Rattle.reading.proofs.refused.Statement.{statement}
-use Rattle.reading.proofs.refused.Tie as tie
-
-pub refused_spec : {M : Type 1} → statement M
-refused_spec = tie.close (tie.spec (λ c κs. search rules) (λ c. rw c.blank.ensures))
