@@ -2,14 +2,17 @@
 -- How: a run of lines is a list of them (Rows.antt of crate `pages`), which has both their bytes and their number. A
 -- piece and what is left after it are what was left before (`piece_rest`, Rest.antt).
 use Prim.Native.Nat.{ℕ, zero, suc, ◌+◌, ◌*◌, ◌-◌, ◌%◌, ◌^◌, ◌<◌, ◌≤◌}
-use mathlib.Core.Path.{◌≡◌, sym, ap, ◌∙◌}
+use mathlib.Core.Path.{◌≡◌, refl, sym, ap, ◌∙◌}
 use mathlib.Core.List.{List, [], ◌∷◌, ◌++◌, append_assoc, append-nil}
 use native.Mathlib.Decide.{dec_le, dec_lt, ℕ_discrete}
 use native.Mathlib.Omega.{arith}
 use borrow.Author.Tests.{lt-ltb, le-ltb, ne_eqb}
+use Rattle.std.specs.Prelude.{Result, Ok, Err, IsOk}
 use lib.ListN.{length, take, length-append}
 use lib.Seq.{take_all, take_at, length-take-le}
 use Rattle.refusal.specs.Numbers as refusal
+use Rattle.refusal.specs.declared.Refusal.{Refusal}
+use Rattle.refusal.proofs.One.{number_above_0}
 use Rattle.text.specs.Text.{newline, text_of, numeral_of, lines_of, hex_of}
 use Rattle.text.proofs.Lengths.{hex_long}
 use Rattle.section.specs.Section.{count_of, address_of}
@@ -18,7 +21,8 @@ use Rattle.body.specs.Body.{address_at}
 use Rattle.pages.specs.Page.{word_line, longest_line}
 use Rattle.pages.proofs.Runs.{run_fits}
 use Rattle.listing.specs.declared.Cursor.{Cursor}
-use Rattle.listing.specs.Piece.{Listed}
+use Rattle.listing.specs.declared.extent.Piece.{Piece}
+use Rattle.listing.specs.Piece.{Listed, listing_of, piece_of}
 use Rattle.listing.specs.Swept.{view_in, word_count, head_line, line_in, refused_line, swept_of}
 use Rattle.listing.specs.Piece.{last_line, line_at, lines_in, piece_lines, piece_bytes, piece_number, next_of}
 use Rattle.listing.specs.Piece.{cursor_after, written_after}
@@ -189,6 +193,14 @@ module _ (f : List ℕ) (room : ℕ) (c : Cursor) where
       go : Dec (piece_lines f room c ≡ 0) → length (rest_rows f (next_of f room c)) < length (rest_rows f c)
       go (yes z) = absurd (some (ap length (no_bytes f room c z)))
       go (no z) = omega (arith, piece_count f room c)
+
+-- with room for the longest line no piece is refused, as an answer of the code
+pub accepted : (f : List ℕ) (room : ℕ) (c : Cursor) (r : Result Piece Refusal) → listing_of c r ≡ piece_of f room c
+    → longest_line ≤ room → IsOk r
+accepted f room c (Ok p) e h = refl
+accepted f room c (Err r) e h =
+    let refused = ap (λ (l : Listed). l.number) e ∙ enough f room c h in
+    absurd (omega (arith, refused, number_above_0 r))
 
 -- ── a buffer of 65,536 bytes ──
 

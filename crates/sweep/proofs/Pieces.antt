@@ -1,5 +1,5 @@
 -- What an accepted piece of the listing is, in a page of this room.
-use Rattle.std.proofs.Common.{◌≡◌, refl, sym, ap, subst, ◌∙◌, ℕ, ◌<◌, List, length, Ok}
+use Rattle.std.proofs.Common.{◌≡◌, refl, sym, ap, subst, ◌∙◌, ℕ, ◌<◌, List, length, Result, Ok}
 use lib.ListN.{take, drop}
 use lib.Seq.{take_at}
 use Rattle.buffers.specs.Bytes.{over}
@@ -15,9 +15,12 @@ use Rattle.listing.proofs.Proved.{theorems, falls}
 abbrev pub room : ℕ
 room = 4096
 
-module _ (file page page' : List ℕ) (at : Cursor) (p : Piece)
-    (value : listing_of at (Ok p) ≡ piece_of file (length page) at)
+module _ (file page page' : List ℕ) (at : Cursor) {r : Result Piece _} (p : Piece) (is_accepted : r ≡ Ok p)
+    (is_piece : listing_of at r ≡ piece_of file (length page) at)
     (left : page' ≡ over (piece_bytes file (length page) at) page) where
+  value : listing_of at (Ok p) ≡ piece_of file (length page) at
+  value = rw is_accepted at is_piece
+
   bytes_are : p.bytes ≡ length (piece_bytes file (length page) at)
   bytes_are = ap (λ (l : Listed). l.bytes) value
 

@@ -15,7 +15,9 @@ const PAGE: usize = 4096;
 fn list(file: &[u8]) {
     let mut page = [b' '; PAGE];
     let mut at = Cursor::default();
-    while let Ok(piece) = listing::piece(file, at, &mut page) {
+    loop {
+        // Any line has room in a page, so no piece is refused: the listing ends with one that has no bytes.
+        let piece = listing::piece(file, at, &mut page).unwrap();
         if piece.bytes == 0 {
             return;
         }

@@ -5,9 +5,9 @@ use Rattle.sweep.proofs.Pieces.{room}
 use Rattle.sweep.proofs.list.Given as goal
 
 -- this many pieces were written, and the next one begins at the cursor
-abbrev pub invariant-loop-piece : goal.invariant-loop-piece
-invariant-loop-piece l = (length l.page ≡ room) × ((k : ℕ) × (l.at ≡ cursor_after l.file (λ i. room) k))
+abbrev pub invariant-loop-page : goal.invariant-loop-page
+invariant-loop-page l = (length l.page ≡ room) × ((k : ℕ) × (l.at ≡ cursor_after l.file (λ i. room) k))
 
 -- the lines that are left
-abbrev pub decreases-loop-piece : goal.decreases-loop-piece
-decreases-loop-piece l = length (rest_rows l.file l.at)
+abbrev pub decreases-loop-page : goal.decreases-loop-page
+decreases-loop-page l = length (rest_rows l.file l.at)
