@@ -37,7 +37,7 @@ pub fn encode(insn: Insn, va: u64, wide: bool) -> Result<u32, Refusal>
 {
     let w = candidate(insn, va);
     match &decode::decode_word(w, va, wide) {
-        Ok(read) if *read == insn => Ok(w),
+        Ok(read) if reading::same_insn(*read, insn) => Ok(w),
         _ => Err(Refusal::NoWord),
     }
 }

@@ -3,7 +3,6 @@ use Rattle.refusal.specs.declared.Refusal.{Refusal}
 use Rattle.reading.specs.declared.Insn.{Insn}
 use Rattle.reading.specs.declared.Decoded.{Decoded}
 use Rattle.reading.specs.Reading.{answer_of, accepted_as}
-use Rattle.reading.proofs.Same.{insn_one, insn_same}
 use Rattle.reading.proofs.Answer.{answer_one}
 use Rattle.inverse.proofs.Proved.{encoded, refused}
 use Rattle.encode.proofs.encode.Goals as goal
@@ -15,7 +14,7 @@ not_read {r} {i} answers other e = other (answer_one r (Ok i) (answers ∙ e))
 -- the candidate has the reading
 pub returns-in-Ok : goal.returns-in-Ok
 returns-in-Ok c =
-    let is_same = insn_one _ _ (sym c.eq.ensures ∙ c.if-eq.true) in
+    let is_same = c.same_insn.ensures.0 c.if-same_insn.true in
     encoded _ _ _ _ (c.candidate-w.ensures _) (search rules)
     (sym c.decode_word.ensures ∙ (ap answer_of c.in-Ok.is ∙ ap accepted_as is_same))
 
@@ -23,7 +22,7 @@ returns-in-Ok c =
 pub returns-in_default : goal.returns-in_default
 returns-in_default c =
     refused _ _ _ _ (c.candidate-w.ensures _)
-    (not_read c.decode_word.ensures (λ e. grind (arith, insn_same c.in-Ok.read))) _ refl refl
+    (not_read c.decode_word.ensures (λ e. grind (arith, c.same_insn.ensures.1))) _ refl refl
 
 -- it is refused
 pub returns-in_default-2 : goal.returns-in_default-2
