@@ -1,7 +1,7 @@
--- Operands one by one, as the code goes through them.
-use Prim.Native.Nat.{ℕ, ◌+◌, ◌*◌, ◌≤◌}
+-- Operands one by one, as the code goes through them, in any spelling.
+use Prim.Native.Nat.{ℕ, ◌+◌, ◌*◌, ◌-◌, ◌≤◌}
 use mathlib.Core.Path.{◌≡◌, refl, sym, ap, ◌∙◌}
-use mathlib.Core.Bool.{Bool, ◌&&◌}
+use mathlib.Core.Bool.{Bool, true, ◌&&◌}
 use mathlib.Core.List.{List, [], ◌∷◌, ◌++◌, append-nil, append_assoc}
 use native.Mathlib.Omega.{arith}
 use lib.ListN.{length, take}
@@ -10,9 +10,12 @@ use Rattle.std.specs.List.{list_all}
 use Rattle.reading.specs.declared.Operand.{Operand}
 use Rattle.reading.specs.declared.Insn.{Insn}
 use Rattle.reading.specs.Names.{name_of}
+use Rattle.buffers.specs.Writes.{Wrote}
+use Rattle.buffers.proofs.Writes as Writes
 use Rattle.text.specs.Text.{letter, letters, text_of}
+use Rattle.laws.proofs.Tests.{and_r, at_true, true_of}
 use Rattle.line.specs.declared.Draft.{Draft}
-use Rattle.line.specs.Line.{plain, op_text, listed, used, line_of, registered, all_registered}
+use Rattle.line.specs.Line.{Spelling, op_text, listed, used, line_of, registered, all_registered}
 use Rattle.line.specs.Line.{longest_mnemonic, longest_operand, longest}
 use Rattle.line.specs.Private.Steps.{text_in, Added}
 use Rattle.line.proofs.Drafts.{after}
@@ -23,43 +26,103 @@ unfolding all_registered
 all_registered_lem [] = refl
 all_registered_lem (o ∷ os) = ap (λ (b : Bool). registered o.op && b) (all_registered_lem os)
 
--- the line so far, and with what is left, each with `before` or a comma and a space before it, it is the whole line
-pub record Turn (i : Insn) (d : Draft) (before : List ℕ) (left : List Operand) : Type 0 where
-  pub text : text_in d ++ listed plain before left ≡ line_of plain i
-  pub room : d.end + length before + (2 + longest_operand) * length left ≤ 2 + longest
-  pub short : d.end ≤ longest
+-- k operands have this many bytes at most: a comma, a space and 26 bytes for each, but the first has a space alone
+-- before it
+abbrev pub most : ℕ → ℕ
+most k = (2 + longest_operand) * k - 1
+
+-- the mnemonic is in d₀; `done` was added to that, which gives d, and with what is left, each with `before` or a comma
+-- and a space before it, it is all that is to be added
+pub record Turn (σ : Spelling) (i : Insn) (d₀ d : Draft) (before : List ℕ) (left : List Operand) : Type 0 where
+  pub slots : length i.ops ≡ 4
+  pub four : i.count ≤ 4
+  pub name : text_in d₀ ≡ text_of (name_of i.mnemonic)
+  pub start : d₀.end ≤ longest_mnemonic
+  pub high : length left ≤ i.count
+  pub done : List ℕ
+  pub whole : done ++ listed σ before left ≡ listed σ (text_of " ") (used i)
+  pub registers : all_registered (used i) ≡ true → all_registered left ≡ true
+  pub added : Added (most (i.count - length left)) done d₀ d
+  pub room : d.end + length before + (2 + longest_operand) * length left ≤ d₀.end + 1 + (2 + longest_operand) * i.count
 
 -- the mnemonic is there
-pub begins : (i : Insn) {d₀ d : Draft} → i.count ≤ 4 → length i.ops ≡ 4 → d₀.end ≡ 0 →
-    Added longest_mnemonic (text_of (name_of i.mnemonic)) d₀ d → Turn i d (text_of " ") (used i)
-unfolding line_of text_of letters letter
-begins i {d₀} {d} few slots z a =
+pub begins : (σ : Spelling) (i : Insn) {d₀ d : Draft} → i.count ≤ 4 → length i.ops ≡ 4 → d₀.end ≡ 0 →
+    Added longest_mnemonic (text_of (name_of i.mnemonic)) d₀ d → Turn σ i d d (text_of " ") (used i)
+unfolding text_of letters letter
+begins σ i {d₀} {d} four slots z a =
     let none : text_in d₀ ≡ [] = ap (λ (n : ℕ). take n d₀.bytes) z in
-    let left : length (used i) ≤ 4 = omega (arith, few, length-take-le i.count i.ops (omega (arith, few, slots))) in
+    let many = length-take-le i.count i.ops (omega (arith, four, slots)) in
     record {
-      text =
-          ap (λ (l : List ℕ). l ++ listed plain (text_of " ") (used i))
-          (a.text ∙ ap (λ (l : List ℕ). l ++ text_of (name_of i.mnemonic)) none);
-      room = omega (arith, a.short, z, left);
-      short = omega (arith, a.short, z);
+      slots = slots;
+      four = four;
+      name = a.text ∙ ap (λ (l : List ℕ). l ++ text_of (name_of i.mnemonic)) none;
+      start = omega (arith, a.short, z);
+      high = omega (arith, many);
+      done = [];
+      whole = refl;
+      registers = λ e. e;
+      added = record { text = sym (append-nil (text_in d)); short = omega arith };
+      room = omega (arith, many);
     }
 
--- one operand more
-pub turn : {i : Insn} {d d₁ d₂ : Draft} {before : List ℕ} {o : Operand} {left : List Operand} →
-    Turn i d before (o ∷ left) → Added (length before) before d d₁ → Added longest_operand (op_text plain o.op) d₁ d₂ →
-    Turn i d₂ (text_of ", ") left
-unfolding listed text_of letters letter
-turn {d = d} {before = before} {o = o} {left = left} t a b =
-    let written = after a b in
-    record {
-      text =
-          ap (λ (l : List ℕ). l ++ listed plain (text_of ", ") left) written.text
-          ∙ append_assoc (text_in d) (before ++ op_text plain o.op) (listed plain (text_of ", ") left) ∙ t.text;
-      room = omega (arith, t.room, written.short);
-      short = omega (arith, t.room, written.short);
-    }
+module _ {σ : Spelling} {i : Insn} {d₀ d : Draft} {before : List ℕ} where
+  -- one operand more
+  pub turn : {o : Operand} {left : List Operand} {d₁ d₂ : Draft} → Turn σ i d₀ d before (o ∷ left) →
+      Added (length before) before d d₁ → Added longest_operand (op_text σ o.op) d₁ d₂ →
+      Turn σ i d₀ d₂ (text_of ", ") left
+  unfolding listed all_registered text_of letters letter
+  turn {o} {left} t a b =
+      let step = after a b in
+      record {
+        slots = t.slots;
+        four = t.four;
+        name = t.name;
+        start = t.start;
+        high = omega (arith, t.high);
+        done = t.done ++ (before ++ op_text σ o.op);
+        whole = append_assoc t.done (before ++ op_text σ o.op) (listed σ (text_of ", ") left) ∙ t.whole;
+        registers = λ e.
+            true_of (all_registered left) (and_r (registered o.op) (all_registered left) (at_true (t.registers e)));
+        added =
+            record {
+              text = (after t.added step).text;
+              short = omega (arith, t.high, t.room, step.short);
+            };
+        room = omega (arith, t.room, step.short);
+      }
 
--- none is left
-pub ends : {i : Insn} {d : Draft} {before : List ℕ} → Turn i d before [] → text_in d ≡ line_of plain i
-unfolding listed
-ends {d = d} t = sym (append-nil (text_in d)) ∙ t.text
+  -- with what is left, it is the whole line
+  pub so_far : {left : List Operand} → Turn σ i d₀ d before left → text_in d ++ listed σ before left ≡ line_of σ i
+  unfolding line_of
+  so_far {left} t =
+      ap (λ (l : List ℕ). l ++ listed σ before left) t.added.text
+      ∙ append_assoc (text_in d₀) t.done (listed σ before left) ∙ ap (λ (l : List ℕ). text_in d₀ ++ l) t.whole
+      ∙ ap (λ (l : List ℕ). l ++ listed σ (text_of " ") (used i)) t.name
+
+  -- it is never too long, nor with what stands before the next operand and the longest operands that can be left
+  pub in_bounds : {left : List Operand} → Turn σ i d₀ d before left →
+      (d.end + length before + (2 + longest_operand) * length left ≤ 2 + longest) × (d.end ≤ longest)
+  in_bounds t =
+      (omega (arith, t.room, t.start, t.four), omega (arith, t.added.short, t.start, t.four))
+
+  -- none is left: the operands are there, and with the mnemonic they are the line
+  pub ends : Turn σ i d₀ d before [] →
+      Added (most 4) (listed σ (text_of " ") (used i)) d₀ d × (text_in d ≡ line_of σ i)
+  unfolding listed
+  ends t =
+      let all = sym (append-nil t.done) ∙ t.whole in
+      let text = t.added.text ∙ ap (λ (l : List ℕ). text_in d₀ ++ l) all in
+      (record { text = text; short = omega (arith, t.added.short, t.four) }, sym (append-nil (text_in d)) ∙ so_far t)
+
+-- the mnemonic, and then the operands: in a draft, and in any bytes
+pub line_added : (σ : Spelling) (i : Insn) {d d₁ d₂ : Draft} →
+    Added longest_mnemonic (text_of (name_of i.mnemonic)) d d₁ →
+    Added (most 4) (listed σ (text_of " ") (used i)) d₁ d₂ → Added longest (line_of σ i) d d₂
+unfolding line_of
+line_added σ i a b = after a b
+
+pub line_of_lem : (σ : Spelling) (i : Insn) {d d₁ d₂ : List ℕ} {at r : ℕ} →
+    Wrote 0 longest_mnemonic (text_of (name_of i.mnemonic)) d d₁ at →
+    Wrote at (most 4) (listed σ (text_of " ") (used i)) d₁ d₂ r → Wrote 0 longest (line_of σ i) d d₂ r
+unfolding line_of
+line_of_lem σ i a b = Writes.after a b (omega arith)
