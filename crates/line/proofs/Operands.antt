@@ -18,7 +18,7 @@ use Rattle.line.specs.declared.Draft.{Draft}
 use Rattle.line.specs.Line.{Spelling, op_text, listed, used, line_of, registered, all_registered}
 use Rattle.line.specs.Line.{longest_mnemonic, longest_operand, longest}
 use Rattle.line.specs.Private.Steps.{text_in, Added}
-use Rattle.line.proofs.Drafts.{after}
+use Rattle.line.proofs.Drafts.{bound, after}
 
 -- they have registers if each of them has
 pub all_registered_lem : (os : List Operand) → list_all (λ (o : Operand). registered o.op) os ≡ all_registered os
@@ -37,6 +37,7 @@ pub record Turn (σ : Spelling) (i : Insn) (d₀ d : Draft) (before : List ℕ) 
   pub slots : length i.ops ≡ 4
   pub four : i.count ≤ 4
   pub name : text_in d₀ ≡ text_of (name_of i.mnemonic)
+  pub size₀ : length d₀.bytes ≡ longest
   pub start : d₀.end ≤ longest_mnemonic
   pub high : length left ≤ i.count
   pub done : List ℕ
@@ -46,48 +47,55 @@ pub record Turn (σ : Spelling) (i : Insn) (d₀ d : Draft) (before : List ℕ) 
   pub room : d.end + length before + (2 + longest_operand) * length left ≤ d₀.end + 1 + (2 + longest_operand) * i.count
 
 -- the mnemonic is there
-pub begins : (σ : Spelling) (i : Insn) {d₀ d : Draft} → i.count ≤ 4 → length i.ops ≡ 4 → d₀.end ≡ 0 →
-    Added longest_mnemonic (text_of (name_of i.mnemonic)) d₀ d → Turn σ i d d (text_of " ") (used i)
+pub begins : (σ : Spelling) (i : Insn) {d₀ d : Draft} → i.count ≤ 4 → length i.ops ≡ 4 →
+    length d₀.bytes ≡ longest → d₀.end ≡ 0 → Added longest_mnemonic (text_of (name_of i.mnemonic)) d₀ d →
+    Turn σ i d d (text_of " ") (used i)
 unfolding text_of letters letter
-begins σ i {d₀} {d} four slots z a =
+begins σ i {d₀} {d} four slots size z a =
     let none : text_in d₀ ≡ [] = ap (λ (n : ℕ). take n d₀.bytes) z in
     let many = length-take-le i.count i.ops (omega (arith, four, slots)) in
     record {
       slots = slots;
       four = four;
       name = a.text ∙ ap (λ (l : List ℕ). l ++ text_of (name_of i.mnemonic)) none;
+      size₀ = Writes.kept a.wrote (omega (arith, a.wrote.after, a.short, size, z)) ∙ size;
       start = omega (arith, a.short, z);
       high = omega (arith, many);
       done = [];
       whole = refl;
       registers = λ e. e;
-      added = record { text = sym (append-nil (text_in d)); short = omega arith };
+      added = record { text = sym (append-nil (text_in d)); short = omega arith; wrote = Writes.nothing };
       room = omega (arith, many);
     }
 
 module _ {σ : Spelling} {i : Insn} {d₀ d : Draft} {before : List ℕ} where
+  -- no byte is added or lost
+  size : {left : List Operand} → Turn σ i d₀ d before left → length d.bytes ≡ longest
+  size t =
+      let w = t.added.wrote in
+      Writes.kept w (omega (arith, w.after, w.short, t.size₀, t.start, t.four)) ∙ t.size₀
+
   -- one operand more
   pub turn : {o : Operand} {left : List Operand} {d₁ d₂ : Draft} → Turn σ i d₀ d before (o ∷ left) →
       Added (length before) before d d₁ → Added longest_operand (op_text σ o.op) d₁ d₂ →
       Turn σ i d₀ d₂ (text_of ", ") left
   unfolding listed all_registered text_of letters letter
-  turn {o} {left} t a b =
-      let step = after a b in
+  turn {o} {left} {d₁} {d₂} t a b =
+      let step = after a b (omega (arith, size t, t.added.short, t.start, t.four)) in
+      let row = after t.added step (omega (arith, t.size₀, t.start)) in
+      let short : d₂.end ≤ d₀.end + most (i.count - length left) = omega (arith, t.high, t.room, step.short) in
       record {
         slots = t.slots;
         four = t.four;
         name = t.name;
+        size₀ = t.size₀;
         start = t.start;
         high = omega (arith, t.high);
         done = t.done ++ (before ++ op_text σ o.op);
         whole = append_assoc t.done (before ++ op_text σ o.op) (listed σ (text_of ", ") left) ∙ t.whole;
         registers = λ e.
             true_of (all_registered left) (and_r (registered o.op) (all_registered left) (at_true (t.registers e)));
-        added =
-            record {
-              text = (after t.added step).text;
-              short = omega (arith, t.high, t.room, step.short);
-            };
+        added = record { text = row.text; short = short; wrote = Writes.bound short row.wrote };
         room = omega (arith, t.room, step.short);
       }
 
@@ -102,25 +110,16 @@ module _ {σ : Spelling} {i : Insn} {d₀ d : Draft} {before : List ℕ} where
   -- it is never too long, nor with what stands before the next operand and the longest operands that can be left
   pub in_bounds : {left : List Operand} → Turn σ i d₀ d before left →
       (d.end + length before + (2 + longest_operand) * length left ≤ 2 + longest) × (d.end ≤ longest)
-  in_bounds t =
-      (omega (arith, t.room, t.start, t.four), omega (arith, t.added.short, t.start, t.four))
+  in_bounds t = (omega (arith, t.room, t.start, t.four), omega (arith, t.added.short, t.start, t.four))
 
   -- none is left: the operands are there, and with the mnemonic they are the line
-  pub ends : Turn σ i d₀ d before [] →
-      Added (most 4) (listed σ (text_of " ") (used i)) d₀ d × (text_in d ≡ line_of σ i)
+  pub ends : Turn σ i d₀ d before [] → Added (most 4) (listed σ (text_of " ") (used i)) d₀ d × (text_in d ≡ line_of σ i)
   unfolding listed
   ends t =
       let all = sym (append-nil t.done) ∙ t.whole in
-      let text = t.added.text ∙ ap (λ (l : List ℕ). text_in d₀ ++ l) all in
-      (record { text = text; short = omega (arith, t.added.short, t.four) }, sym (append-nil (text_in d)) ∙ so_far t)
+      (bound (omega (arith, t.four)) (rw all at t.added), sym (append-nil (text_in d)) ∙ so_far t)
 
--- the mnemonic, and then the operands: in a draft, and in any bytes
-pub line_added : (σ : Spelling) (i : Insn) {d d₁ d₂ : Draft} →
-    Added longest_mnemonic (text_of (name_of i.mnemonic)) d d₁ →
-    Added (most 4) (listed σ (text_of " ") (used i)) d₁ d₂ → Added longest (line_of σ i) d d₂
-unfolding line_of
-line_added σ i a b = after a b
-
+-- the mnemonic, and then the operands
 pub line_of_lem : (σ : Spelling) (i : Insn) {d d₁ d₂ : List ℕ} {at r : ℕ} →
     Wrote 0 longest_mnemonic (text_of (name_of i.mnemonic)) d d₁ at →
     Wrote at (most 4) (listed σ (text_of " ") (used i)) d₁ d₂ r → Wrote 0 longest (line_of σ i) d d₂ r

@@ -12,7 +12,7 @@ pub loop-slot-init : goal.loop-slot-init
 unfolding text_of letters letter
 loop-slot-init c =
     let k = c.args.i.mnemonic in
-    begins plain c.args.i c.requires (search rules) refl
+    begins plain c.args.i c.requires (search rules) (search rules) refl
     (named (ap before_zero c.name_of.ensures ∙ mnemonic_name k) (mnemonic_most k) c.push_name.ensures)
 
 pub loop-slot-preserved : goal.loop-slot-preserved
