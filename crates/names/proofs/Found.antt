@@ -149,3 +149,8 @@ named l k h e = go (kind_or_none l)
     go : (kind_of l ≡ no_kind) ⊎ HasKind l → l ≡ name_bytes k
     go (inl n) = absurd (omega arith)
     go (inr f) = f.bytes ∙ ap name_bytes (sym f.is ∙ e)
+
+-- zeros are not a name
+pub no_kind_lem : kind_of (padded 16 "") ≡ no_kind
+unfolding kind_of kind_in same mnemonics padded letters letter
+no_kind_lem = refl
