@@ -1,3 +1,4 @@
 pub mod Numbered
 pub mod Same
+pub mod ByParts
 pub mod Answer

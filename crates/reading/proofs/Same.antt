@@ -55,7 +55,7 @@ byte_one a b e = grind (arith, common_steps)
 mark_one : (a b : Bool) → (bool_impl.ghosts).eq a b ≡ true → a ≡ b
 mark_one a b e = grind (arith, common_steps)
 
-insn_by : (a b : Insn) →
+pub insn_by : (a b : Insn) →
     a.mnemonic ≡ b.mnemonic → a.count ≡ b.count → a.ops ≡ b.ops → a.flow ≡ b.flow → a.target ≡ b.target →
     a.delay_slot ≡ b.delay_slot → a.effect ≡ b.effect → a ≡ b
 insn_by a b p q r s t u v =
