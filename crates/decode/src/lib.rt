@@ -41,7 +41,9 @@ pub fn decode(bytes: &[u8], va: u64, big_endian: bool, bits64: bool) -> Result<I
     let Some(first) = bytes.first_chunk::<4>() else {
         return Err(Refusal::Short);
     };
-    decode_word(word::from_bytes(*first, big_endian), va, bits64)
+    // As `decode_word`, and not by it, which would copy what is read once more on the way out (docs/BENCH.md).
+    let w = word::from_bytes(*first, big_endian);
+    forms::read(shape_of(w, bits64), w, va)
 }
 
 // The shape of the word, and what the shape reads.

@@ -61,7 +61,9 @@ fn say_reading(i: Insn) {
 fn say_answer(answer: Result<Insn, Refusal>) {
     match answer {
         Ok(i) => {
-            say(b"number 0, ");
+            say(b"number ");
+            say_number(0);
+            say(b", ");
             say_reading(i);
         }
         Err(refusal) => {

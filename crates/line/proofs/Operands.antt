@@ -70,7 +70,7 @@ begins σ i {d₀} {d} four slots size z a =
 
 module _ {σ : Spelling} {i : Insn} {d₀ d : Draft} {before : List ℕ} where
   -- no byte is added or lost
-  size : {left : List Operand} → Turn σ i d₀ d before left → length d.bytes ≡ longest
+  pub size : {left : List Operand} → Turn σ i d₀ d before left → length d.bytes ≡ longest
   size t =
       let w = t.added.wrote in
       Writes.kept w (omega (arith, w.after, w.short, t.size₀, t.start, t.four)) ∙ t.size₀

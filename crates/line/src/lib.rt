@@ -10,7 +10,7 @@ ghost use Rattle.text.specs.Text.{numeral_of, decimal_of, address_of, before_zer
 ghost use Rattle.line.specs.Line as Line;
 ghost use Rattle.line.specs.Line.{plain, op_text, line_of, printing_of, printed, printed_of};
 ghost use Rattle.line.specs.Line.{longest_register, longest_address, longest_operand, longest};
-ghost use Rattle.line.specs.Private.Steps.{Added, longest_number, text_in};
+ghost use Rattle.line.specs.Private.Steps.{Added, longest_number, separator, text_in};
 
 use reading::{Insn, Op, kind};
 use refusal::Refusal;
@@ -34,8 +34,8 @@ fn registered(o: Op) -> bool
 }
 
 // Over four operands, a register above 31 in one that is used, or a mnemonic without a name: no line.
-fn printable(i: Insn) -> bool
-    ensures { result ≡ Line.printable i }
+fn printable(i: &Insn) -> bool
+    ensures { result ≡ Line.printable i.now }
 {
     if kind::MANY <= i.mnemonic || OPERANDS < i.count {
         return false;
@@ -55,7 +55,7 @@ struct Draft {
     end: usize,
 }
 
-// Each of these adds a text at the end. `written` has room for each: no draft is longer than the longest line.
+// Each of these adds a text at the end. `fill` has room for each: no draft is longer than the longest line.
 // `impl Model`, as `text::Numeral` has it, would take none of the clauses away: each asks for the room of its own text,
 // and `Added` would still have to say how much of it was used.
 impl Draft {
@@ -122,6 +122,18 @@ impl Draft {
         self.push_number(r);
     }
 
+    // A space before the first operand, a comma and a space before each other.
+    fn push_separator(&mut self, is_first: bool)
+        requires { self.old.end + 2 ≤ longest }
+        ensures { Added (length (separator is_first)) (separator is_first) self.old self.new }
+    {
+        if is_first {
+            self.push_bytes(b" ");
+        } else {
+            self.push_bytes(b", ");
+        }
+    }
+
     fn push_operand(&mut self, o: Op)
         requires { self.old.end + longest_operand ≤ longest }
         ensures { Added longest_operand (op_text plain o) self.old self.new }
@@ -139,23 +151,20 @@ impl Draft {
 
 // ── the line ──
 
-// A space before the first operand, a comma and a space before each other.
-fn written(i: Insn) -> Draft
-    requires { i.count ≤ 4 }
-    ensures { (text_in result ≡ line_of plain i) × (result.end ≤ longest) }
+// The line of a reading, into an empty draft. The draft is filled where it stands, the reading is borrowed, and what
+// stands before an operand is known where it is pushed: else each would be copied at every line (docs/BENCH.md).
+fn fill(i: &Insn, line: &mut Draft)
+    requires { (line.old.end ≡ 0) × (i.now.count ≤ 4) }
+    ensures { (text_in line.new ≡ line_of plain i.now) ×
+        ((line.new.end ≤ longest) × (length line.new.bytes ≡ longest)) }
 {
-    let mut line = Draft {
-        bytes: [0; LONGEST],
-        end: 0,
-    };
     line.push_name(&names::name_of(i.mnemonic));
-    let mut before: &[u8] = b" ";
+    let mut is_first = true;
     for slot in &i.ops[..i.count as usize] {
-        line.push_bytes(before);
+        line.push_separator(is_first);
         line.push_operand(slot.op);
-        before = b", ";
+        is_first = false;
     }
-    line
 }
 
 // The line of a reading, to the start of `out`; answers how many bytes it has. Where there is room for LONGEST bytes,
@@ -165,10 +174,14 @@ pub fn print(i: Insn, out: &mut [u8]) -> Result<usize, Refusal>
     ensures out_after { out.new ≡ over (printed plain i (length out.old)) out.old }
     ensures fits { Line.printable i ≡ true → longest ≤ length out.old → IsOk result }
 {
-    if !printable(i) {
+    if !printable(&i) {
         return Err(Refusal::NoLine);
     }
-    let line = written(i);
+    let mut line = Draft {
+        bytes: [0; LONGEST],
+        end: 0,
+    };
+    fill(&i, &mut line);
     if out.len() < line.end {
         return Err(Refusal::NoRoom);
     }

@@ -13,7 +13,7 @@ use Rattle.line.proofs.printable.Goals.{then-i-ge-MANY-via-else-i-ge-MANY+then-i
 pub returns-then-i-ge-MANY : goal.returns-then-i-ge-MANY
 unfolding printable
 returns-then-i-ge-MANY c =
-    let i = c.args.i in
+    let i = c.args.i.now in
     elim c.then-i-ge-MANY.branch [
       | then-i-ge-MANY-via-then-i-ge-MANY w ↦ rw (le-ltb i.mnemonic many w.if-i-ge-MANY.true)
       | then-i-ge-MANY-via-else-i-ge-MANY+then-i-gt-OPERANDS w ↦
@@ -23,7 +23,7 @@ returns-then-i-ge-MANY c =
 pub returns : goal.returns
 unfolding printable
 returns c =
-    let i = c.args.i in
+    let i = c.args.i.now in
     let all = all_from_yields_List (λ (o : Operand). registered o.op) _ _ _ c.all.ensures.ran
     (YieldsList-from_slice (used i) cc) (λ x b q k. search (rules, tests)) in
     rw (lt-ltb i.mnemonic many c.if-i-ge-MANY.false, le-leb i.count 4 c.if-i-gt-OPERANDS.false)
